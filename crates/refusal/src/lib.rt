@@ -102,7 +102,9 @@ pub impl fmt::Display for Refusal as RefusalDisplay {
 
     fn fmt<W: fmt::Write>(&self, f: &mut fmt::Formatter<W>) -> fmt::Result {
         match self {
-            Refusal::WrongPhase => f.write_str("the machine is in another phase, or already started"),
+            Refusal::WrongPhase => f.write_str(
+                "the machine is in another phase, or already started",
+            ),
             Refusal::OutsideLimits => f.write_str("outside the limits"),
             Refusal::BadImage(fault) => write!(f, "{fault}"),
             Refusal::NoObject => f.write_str("no object there"),
