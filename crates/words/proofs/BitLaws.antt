@@ -6,7 +6,7 @@ use native.Mathlib.Nat.{div-one, one-mul, pow-suc}
 use native.Mathlib.Omega.{arith}
 use lib.Bits.{bitAnd, bitOr}
 use lib.Pow.{pow-mono}
-use Rattle.std.proofs.shelf.Bits.{pow-pos, pow-add, shr-shr, shl-shr, or-shr, or-mod, and-shr, and-mod, div-below, div-add-mod'}
+use Rattle.std.proofs.shelf.Bits.{pow-pos, pow-add, shr-shr, shl-shr, or-shr, or-mod, and-shr, and-mod, and-comm, div-below}
 use Rattle.std.proofs.shelf.Tests.{cases-eq, cases-lt, cases-order}
 use Rattle.words.specs.Bits.{Bit}
 
@@ -103,3 +103,42 @@ bit-put-kept m k i h = bit-or-left m (2 ^ k) i h
 pub bit-put-other : (m k i : ℕ) → (i ≡ k → ⊥) → Bit (bitOr m (2 ^ k)) i → Bit m i
 bit-put-other m k i ne h =
     ⊎-elim (λ (b : Bit m i). b) (λ (b : Bit (2 ^ k) i). absurd (ne (bit-pow-other k i b))) (bit-or-cases m (2 ^ k) i h)
+
+-- the bits of what two masks share
+and-digit : (a b i : ℕ) → bitAnd a b / 2 ^ i % 2 ≡ bitAnd (a / 2 ^ i % 2) (b / 2 ^ i % 2)
+and-digit a b i = ap (λ x. x % 2) (and-shr a b i) ∙ and-mod (a / 2 ^ i) (b / 2 ^ i) 1
+
+pub bit-and-from : (a b i : ℕ) → Bit a i → Bit b i → Bit (bitAnd a b) i
+bit-and-from a b i p q = and-digit a b i ∙ ap (λ x. bitAnd x (b / 2 ^ i % 2)) p ∙ ap (λ x. bitAnd 1 x) q
+
+pub bit-and-left : (a b i : ℕ) → Bit (bitAnd a b) i → Bit a i
+bit-and-left a b i h =
+    ⊎-elim
+    (λ (e : a / 2 ^ i % 2 ≡ 0).
+    let z : _≡_ {A = ℕ} 0 1 = ap (λ x. bitAnd x (b / 2 ^ i % 2)) (sym e) ∙ sym (and-digit a b i) ∙ h in absurd (omega arith))
+    (λ (e : a / 2 ^ i % 2 ≡ 1). e)
+    (parity (a / 2 ^ i))
+
+pub bit-and-right : (a b i : ℕ) → Bit (bitAnd a b) i → Bit b i
+bit-and-right a b i h = bit-and-left b a i (subst (λ x. Bit x i) (and-comm a b) h)
+
+-- a mask with no bits is 0
+pub no-bits : (m : ℕ) → ((i : ℕ) → Bit m i → ⊥) → m ≡ 0
+no-bits m h = sym (div-one m) ∙ bits-below m 0 (λ i b. absurd (h i b))
+
+pub bit-of-zero : (i : ℕ) → Bit 0 i → ⊥
+bit-of-zero i b = bit-below 0 i 0 (omega arith) (omega arith) b
+
+-- the bits of a mask shifted down
+pub bit-shr : (m k i : ℕ) → Bit (m / 2 ^ k) i → Bit m (k + i)
+bit-shr m k i h = ap (λ x. x % 2) (sym (shr-shr m k i)) ∙ h
+
+pub shr-bit : (m k i : ℕ) → Bit m (k + i) → Bit (m / 2 ^ k) i
+shr-bit m k i h = ap (λ x. x % 2) (shr-shr m k i) ∙ h
+
+-- bit 0 is the parity
+pub low-bit : (m : ℕ) → m % 2 ≡ 1 → Bit m 0
+low-bit m e = ap (λ x. x % 2) (div-one m) ∙ e
+
+pub bit-low : (m : ℕ) → Bit m 0 → m % 2 ≡ 1
+bit-low m b = ap (λ x. x % 2) (sym (div-one m)) ∙ b
