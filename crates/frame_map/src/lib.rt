@@ -1,5 +1,8 @@
 // Frame maps: what a frame that stands at a point of the script's code holds.
+mod map;
 mod row;
 
+pub use map::FrameMap;
+pub use map::entries;
 pub use row::Entry;
 pub use row::Row;
