@@ -1,2 +1,4 @@
+pub mod LawfulProp
 pub mod MapLaws
 pub mod RowLaws
+pub mod TableLaws

@@ -1,3 +1,4 @@
 pub mod Maps
 pub mod Rows
+pub mod Tables
 pub mod Taking
