@@ -221,3 +221,10 @@ good-long ws n g = omega (arith, length-sorted (g .entries), ap length (g .laid)
 pub point-fits : (ws : List ℕ) (i : ℕ) → getD ws (5 * i) 0 < 2 ^ 32 → entry-in ws i .point < 2 ^ 16
 unfolding entry-in
 point-fits ws i h = omega arith
+
+-- a row of a good image is read as the entry that it was laid out from
+pub read-means : (ws : List ℕ) (es : List Entry) → Means ws es → (k : ℕ) → k < length es → entry-in ws k ≡ entry-at es k
+read-means ws es m k l =
+    let g : Good-rows ws (length es) =
+    record { entries = es; table = m .table; many = refl; laid = m .laid ∙ sym (take-all (5 * length es) ws (omega (arith, ap length (m .laid), length-sorted es))) } in
+    read-back ws (length es) g k l

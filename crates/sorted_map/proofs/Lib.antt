@@ -1,2 +1,3 @@
 pub mod ImageLaws
 pub mod LayoutLaws
+pub mod SearchLaws

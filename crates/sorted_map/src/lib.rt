@@ -1,4 +1,11 @@
 // The sorted map: an image of rows by rising point, searched by halving.
 mod check;
+mod map;
+mod methods;
+mod search;
 
+pub use check::MAX_ROWS;
+pub use check::ROW_WORDS;
 pub use check::check_sorted;
+pub use map::SortedMap;
+pub use methods::SortedFrameMap;
