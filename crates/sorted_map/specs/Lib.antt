@@ -1,4 +1,5 @@
 pub mod Checking
 pub mod Decoding
+pub mod File
 pub mod Layout
 pub mod Meaning

@@ -2,6 +2,7 @@
 use mathlib.Core.Path.{_≡_}
 use mathlib.Core.List.{List}
 use Prim.Native.Nat.{ℕ}
+use lib.ListN.{length}
 use Rattle.std.specs.Of.Vec.{vec-items}
 use Rattle.frame_map.specs.Maps.{Rows}
 use Rattle.frame_map.specs.Tables.{row-for}
@@ -21,5 +22,6 @@ count-of m = m .count
 pub record Made-from (image : List ℕ) (m : SortedMap) : Type 0 where
   pub entries : List Entry
   pub means : Means image entries
+  pub many : length entries ≡ m .rows
   pub rows : (p : ℕ) → rows-of m p ≡ row-for p entries
   pub fresh : count-of m ≡ 0

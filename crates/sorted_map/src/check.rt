@@ -72,7 +72,7 @@ fn follows(image: &[u32], index: usize, last: u16) -> bool
 }
 
 // The fault that tells row `row`, by its first word.
-fn fault(row: usize) -> Refusal
+pub(crate) fn fault(row: usize) -> Refusal
     requires { ⌜ row ≤ 2 ^ 61 ⌝ }
     ensures { λ r. ⌜ r ≡ BadImage (sorted-fault row) ⌝ }
 {

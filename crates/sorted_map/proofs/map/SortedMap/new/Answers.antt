@@ -23,6 +23,7 @@ returns c =
     record {
       entries = h .entries;
       means = h .means;
+      many = h .many;
       rows = λ p. ap (λ es. row-for p es) (first-is (vec-items (c .args .image)) (h .entries) (c .in-Continue-rows .rows) (h .many) (h .means));
       fresh = refl;
     }
