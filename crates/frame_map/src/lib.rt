@@ -5,4 +5,7 @@ mod row;
 pub use map::FrameMap;
 pub use map::entries;
 pub use row::Entry;
+pub use row::EntryDebug;
+pub use row::EntryDisplay;
 pub use row::Row;
+pub use row::RowDebug;
