@@ -112,7 +112,10 @@ pub impl fmt::Display for Entry as EntryDisplay {
         let slots = self.row.slots;
         let registers = self.row.registers;
         let untouched = self.row.untouched;
-        write!(f, "point {point} size {size} slots 0x{slots:08x} registers 0x{registers:04x} untouched 0x{untouched:02x} saved")?;
+        write!(
+            f,
+            "point {point} size {size} slots 0x{slots:08x} registers 0x{registers:04x} untouched 0x{untouched:02x} saved"
+        )?;
         for slot in self.row.saved {
             if slot == 0 {
                 f.write_str(" -")?;
