@@ -2,7 +2,7 @@
 // Checks run in rising number, so a call that could be refused for two reasons tells the lower one.
 ghost use mathlib.Core.Path.{_≡_};
 ghost use Rattle.std.specs.declared.option.Option.the-variants.{Some};
-ghost use Rattle.refusal.specs.Numbers.{number-of};
+ghost use Rattle.refusal.specs.Numbers.{number-of, fault-of, root-of};
 ghost use Rattle.refusal.specs.Texts.{place-text, fault-text, text-of};
 use std::fmt;
 
@@ -72,6 +72,26 @@ impl Refusal {
             Refusal::HandlerStands => 11,
             Refusal::NotPointer { root: _ } => 12,
             Refusal::HeapFull => 13,
+        }
+    }
+
+    // The fault of a bad image.
+    pub fn fault(&self) -> Option<ImageFault>
+        ensures { λ r. ⌜ r ≡ fault-of (now (self .entry)) ⌝ }
+    {
+        match self {
+            Refusal::BadImage(fault) => Some(*fault),
+            _ => None,
+        }
+    }
+
+    // The lowest root that holds no pointer, where a collection was refused.
+    pub fn root(&self) -> Option<u32>
+        ensures { λ r. ⌜ r ≡ root-of (now (self .entry)) ⌝ }
+    {
+        match self {
+            Refusal::NotPointer { root } => *root,
+            _ => None,
         }
     }
 }
