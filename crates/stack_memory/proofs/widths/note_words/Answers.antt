@@ -1,0 +1,5 @@
+-- The type of the slice's items bounds them.
+use Rattle.stack_memory.proofs.widths.note_words.Needs as need
+
+pub returns : need.returns
+returns c i = c .typed .words i .fits
