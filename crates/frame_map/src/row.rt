@@ -4,7 +4,6 @@ ghost use Rattle.std.specs.Options.{Cases};
 ghost use Rattle.std.specs.Orderings.{When};
 ghost use Rattle.frame_map.specs.Rows.{Sized, Slotted, Saved, Masked, Lawful};
 ghost use Rattle.frame_map.specs.Taking.{Takes, Untakable};
-use std::fmt;
 use words::has_bit;
 
 // A frame has at most this many words.
@@ -100,29 +99,5 @@ impl Row {
             return false;
         }
         self.has_fair_registers()
-    }
-}
-
-// As `point 20 size 3 slots 0x00000000 registers 0x0001 untouched 0x01 saved - 1 - - - - - -`,
-// with the saved slots of r8 to r15.
-pub impl fmt::Display for Entry as EntryDisplay {
-    fn fmt<W: fmt::Write>(&self, f: &mut fmt::Formatter<W>) -> fmt::Result {
-        let point = self.point;
-        let size = self.row.size;
-        let slots = self.row.slots;
-        let registers = self.row.registers;
-        let untouched = self.row.untouched;
-        write!(
-            f,
-            "point {point} size {size} slots 0x{slots:08x} registers 0x{registers:04x} untouched 0x{untouched:02x} saved"
-        )?;
-        for slot in self.row.saved {
-            if slot == 0 {
-                f.write_str(" -")?;
-            } else {
-                write!(f, " {slot}")?;
-            }
-        }
-        Ok(())
     }
 }

@@ -3,9 +3,12 @@ use mathlib.Core.Path.{_≡_}
 use mathlib.Core.List.{List, _++_}
 use Prim.Native.Nat.{ℕ}
 use lib.Chars.{codes}
+use lib.ListN.{length}
+use Rattle.std.specs.Joined.{joined}
 use Rattle.std.specs.Of.String.{string-bytes}
 use Rattle.std.specs.Orderings.{When}
 use Rattle.std.specs.Written.{decimal}
+use Rattle.frame_map.specs.Texts.{entry-text}
 use Rattle.frame_map.specs.declared.row.Entry.{Entry}
 use Rattle.refusal.specs.Numbers.{number-of}
 use Rattle.refusal.specs.Texts.{text-of}
@@ -17,10 +20,19 @@ use Rattle.inspect.specs.declared.Report.{Report}
 abbrev pub refusal-line : Refusal → List ℕ
 refusal-line e = codes "refused " ++ (decimal (number-of e) ++ (codes ": " ++ (text-of e ++ codes "\n")))
 
--- the file is that of a table
-pub record Good-file (bytes : List ℕ) : Type 0 where
+-- the line of a row
+abbrev pub entry-line : Entry → List ℕ
+entry-line e = entry-text e ++ codes "\n"
+
+-- how many rows there are, and a line for each
+unfoldable pub rows-text : List Entry → List ℕ
+rows-text es = (decimal (length es) ++ codes " rows\n") ++ joined entry-line es
+
+-- the file is that of a table, and the text shows its rows
+pub record Good-file (bytes text : List ℕ) : Type 0 where
   pub entries : List Entry
   pub means : File-means bytes entries
+  pub told : text ≡ rows-text entries
 
 -- the file is bad, and the text is the line of its refusal
 pub record Bad-file (bytes text : List ℕ) : Type 0 where
@@ -28,6 +40,6 @@ pub record Bad-file (bytes text : List ℕ) : Type 0 where
   pub refused : Refused-file bytes reason
   pub told : text ≡ refusal-line reason
 
--- a report accepts exactly the good files
+-- a report accepts exactly the good files, and its text shows the rows or the refusal
 abbrev pub Reports : List ℕ → Report → Type 0
-Reports bytes p = When (p .accepted) (Good-file bytes) (Bad-file bytes (string-bytes (p .text)))
+Reports bytes p = When (p .accepted) (Good-file bytes (string-bytes (p .text))) (Bad-file bytes (string-bytes (p .text)))

@@ -1,8 +1,10 @@
 // What the program prints of an image file.
 ghost use mathlib.Core.Path.{_≡_};
+ghost use Prim.Native.Nat.{_^_};
 ghost use Rattle.std.specs.Of.String.{string-bytes};
 ghost use Rattle.std.specs.Vec.{made};
-ghost use Rattle.inspect.specs.Reports.{Reports, refusal-line};
+ghost use Rattle.frame_map.specs.Maps.{entries-below};
+ghost use Rattle.inspect.specs.Reports.{Reports, refusal-line, rows-text};
 use frame_map::EntryDisplay;
 use frame_map::FrameMap;
 use frame_map::entries;
@@ -22,7 +24,9 @@ pub struct Report {
 }
 
 // How many rows a map has, and a line for each, by rising point.
-fn rows_text<M: FrameMap>(map: &mut M, heap: Global) -> Result<String, AllocError> {
+fn rows_text<M: FrameMap>(map: &mut M, heap: Global) -> Result<String, AllocError>
+    ensures { λ r. ⌜ made r (λ t. string-bytes t ≡ rows-text (entries-below (rows (now (map .entry))) (2 ^ 16))) ⌝ }
+{
     let all = entries(map, heap)?;
     let count = all.len();
     let mut text = format!(heap, "{count} rows\n")?;

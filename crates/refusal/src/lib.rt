@@ -48,7 +48,7 @@ pub enum Refusal {
     HandlerStands,
     // 12: a word that should be a pointer is neither 0 nor an object's place.
     // A collection tells the lowest root that holds such a word; a store has none to tell.
-    NotPointer { root: Option<u32> },
+    NotPointer { root: Option<usize> },
     // 13: the heap has no room for the object.
     HeapFull,
 }
@@ -86,7 +86,7 @@ impl Refusal {
     }
 
     // The lowest root that holds no pointer, where a collection was refused.
-    pub fn root(&self) -> Option<u32>
+    pub fn root(&self) -> Option<usize>
         ensures { λ r. ⌜ r ≡ root-of (now (self .entry)) ⌝ }
     {
         match self {

@@ -1,4 +1,7 @@
 // The program: reads its arguments and files, and prints what the library reports.
+mod demo;
+
+use demo::heap_demo;
 use inspect::inspect_sorted;
 use std::env;
 use std::error::AnyError;
@@ -6,10 +9,12 @@ use std::fs;
 use std::io;
 use std::io::Read;
 
-const HELP: &str = "topvinec: frame maps of script stacks
+const HELP: &str = "topvinec: frame maps and heaps of scripts
 
   topvinec inspect sorted FILE    read a sorted map image (32-bit words, low byte first)
                                   and print its rows, or where it is broken
+  topvinec heap-demo              collect a small heap with sharing, a cycle and garbage,
+                                  and print its words before and after
   topvinec help                   print this text
 
 A file name - means standard input. A broken image, a file that cannot be read
@@ -22,6 +27,7 @@ Example: topvinec inspect sorted examples/three_rows.map
 #[derive(Drop)]
 enum Command {
     Help,
+    HeapDemo,
     InspectSorted(String),
     // No command: why not.
     Wrong(&'static str),
@@ -53,6 +59,7 @@ fn parse(rt: &LibcRuntime) -> io::Result<Command> {
         return Ok(Command::Wrong("too many words (try: topvinec help)"));
     }
     match verb.as_str() {
+        "heap-demo" => Ok(Command::HeapDemo),
         "help" => Ok(Command::Help),
         "inspect" => Ok(parse_inspect(first, second)),
         _ => Ok(Command::Wrong("no such command (try: topvinec help)")),
@@ -89,6 +96,7 @@ fn run(rt: &LibcRuntime) -> Result<bool, AnyError> {
             rt.print(HELP)?;
             Ok(true)
         }
+        Command::HeapDemo => heap_demo(rt),
         Command::InspectSorted(name) => inspect(rt, name.as_str()),
         Command::Wrong(why) => {
             eprintln!(rt, "topvinec: {why}")?;

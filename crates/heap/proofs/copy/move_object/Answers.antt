@@ -1,0 +1,22 @@
+use mathlib.Core.Path.{_≡_, refl, sym, ap, subst, _∙_}
+use native.Mathlib.Omega.{arith}
+use borrow.Author.Needs.{needs}
+use Prim.Native.Nat.{ℕ, _+_, _-_, _≤_, _<_}
+use lib.ListN.{set}
+use Rattle.heap_model.proofs.Steps.{waits-fit, moved-over}
+use Rattle.heap.proofs.copy.move_object.Needs as need
+
+pub part-copy-from-slice-end : need.part-copy-from-slice-end
+part-copy-from-slice-end c = waits-fit (c .args .from .now) (c .args .to .now) (c .args .starts .now) (c .args .free) (c .args .place) (c .size-of-size .result) (c .pre) (c .size-of-size .ensures) .0
+
+pub part-copy-from-slice-end-2 : need.part-copy-from-slice-end-2
+part-copy-from-slice-end-2 c = waits-fit (c .args .from .now) (c .args .to .now) (c .args .starts .now) (c .args .free) (c .args .place) (c .size-of-size .result) (c .pre) (c .size-of-size .ensures) .1
+
+pub mark-requires : need.mark-requires
+mark-requires c κs = (omega (arith, c .size-of-size .ensures), waits-fit (c .args .from .now) (c .args .to .now) (c .args .starts .now) (c .args .free) (c .args .place) (c .size-of-size .result) (c .pre) (c .size-of-size .ensures) .2)
+
+pub returns : need.returns
+returns c s scan ps m a new =
+    moved-over s (c .args .from .now) (c .args .to .now) (c .args .starts .now) (c .args .free) scan ps (c .args .place) (c .size-of-size .result) m a new
+    (c .size-of-size .ensures) (c .copy-from-slice .last .self) (c .copy-from-slice .ensures .after) (c .mark .last .starts) (c .mark .ensures)
+    _ (ap (λ x. set (c .args .from .now) (c .args .place - 1) x) (omega arith)) _ refl

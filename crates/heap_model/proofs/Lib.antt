@@ -1,0 +1,12 @@
+pub mod Spaces
+pub mod Changes
+pub mod Firsts
+pub mod Listings
+pub mod Spans
+pub mod Copying
+pub mod Scans
+pub mod Collections
+pub mod Buffers
+pub mod Steps
+pub mod Makes
+pub mod Gaps
