@@ -1,14 +1,14 @@
 -- A space stays sound when an object is made and when a field is stored.
 use mathlib.Core.Path.{_≡_, refl, sym, ap, subst, _∙_}
-use mathlib.Core.Bool.{Bool, true, false}
-use mathlib.Core.List.{List, [], _∷_, _++_}
-use mathlib.Core.Logic.{_⊎_, inl, inr, ⊎-elim, _≢_}
-use Prim.Native.Nat.{ℕ, zero, suc, _+_, _-_, _*_, _/_, _%_, _≤_, _<_}
+use mathlib.Core.Bool.{Bool, false}
+use mathlib.Core.List.{List}
+use mathlib.Core.Logic.{⊎-elim}
+use Prim.Native.Nat.{ℕ, _+_, _<_}
 use native.Mathlib.Omega.{arith}
-use lib.ListN.{length, getD, set, take}
-use Rattle.std.proofs.shelf.Tests.{cases-eq, cases-lt, cases-order, cases-bool, both-ways}
+use lib.ListN.{length, getD, set}
+use Rattle.std.proofs.shelf.Tests.{cases-eq, both-ways}
 use Rattle.std.proofs.shelf.Lists.{getD-set-same, getD-set-other}
-use Rattle.heap_model.specs.Objects.{Space, space, refs-in, plain-in, size-in, Start, Place, Pointer, weigh, Inside, Apart, Total, Counts, Near, Closed, Tiled, Sound}
+use Rattle.heap_model.specs.Objects.{Space, space, refs-in, plain-in, Start, Pointer, weigh, Tiled, Sound}
 use Rattle.heap_model.proofs.Spaces.{one-object, tiled-kept, Appended, appended-starts, appended-old, tiled-appended}
 
 -- what a pointer field of a sound space holds

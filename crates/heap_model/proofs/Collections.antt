@@ -1,21 +1,21 @@
 -- A finished copy: the new space is sound, and it is the collection of the old one.
 use mathlib.Core.Path.{_≡_, refl, sym, ap, subst, _∙_}
-use mathlib.Core.Bool.{Bool, true, false}
-use mathlib.Core.List.{List, [], _∷_, _++_, map}
-use mathlib.Core.Logic.{_⊎_, inl, inr, ⊎-elim}
-use Prim.Native.Nat.{ℕ, zero, suc, _+_, _-_, _≤_, _<_}
+use mathlib.Core.Bool.{Bool, false}
+use mathlib.Core.List.{List, map}
+use mathlib.Core.Logic.{⊎-elim}
+use Prim.Native.Nat.{ℕ, _+_, _-_, _≤_, _<_}
 use native.Mathlib.Omega.{arith}
-use lib.ListN.{length, getD, take}
+use lib.ListN.{length, getD}
 use Rattle.std.proofs.shelf.Tests.{cases-lt}
 use Rattle.std.proofs.shelf.Lists.{ext-getD, getD-map, length-map, take-all}
-use Rattle.heap_model.specs.Objects.{Space, space, Start, Place, Pointer, refs, plain, size, refs-in, plain-in, header, field, Sound}
-use Rattle.heap_model.specs.Live.{Member, mentions, Listing}
-use Rattle.heap_model.specs.Packing.{span, packed, renamed, Packed, Renaming, Collected}
+use Rattle.heap_model.specs.Objects.{Space, space, Place, Pointer, refs, refs-in, header, Sound}
+use Rattle.heap_model.specs.Live.{mentions, Listing}
+use Rattle.heap_model.specs.Packing.{packed, renamed, Packed, Collected}
 use Rattle.heap_model.specs.Moving.{firsts, base, Renamed, Moving, Early, Scanning}
 use Rattle.heap_model.specs.Steps.{Finished, Rooted, Gathered}
 use Rattle.heap_model.proofs.Changes.{sound-from}
 use Rattle.heap_model.proofs.Listings.{listing-from, one-listing, listed-reached, reached-listed}
-use Rattle.heap_model.proofs.Spans.{base-all, base-ends, renamed-is, renaming-is}
+use Rattle.heap_model.proofs.Spans.{base-ends, renamed-is, renaming-is}
 
 module _ (s : Space) (from to : List ℕ) (starts : List Bool) (free : ℕ) (ps : List ℕ) (m : Moving s from to starts free free ps) where
   -- a packed place

@@ -1,22 +1,22 @@
 -- The steps of a copy: it begins, an object moves, a pointer field is renamed, the scan passes over other words.
 use mathlib.Core.Path.{_≡_, refl, sym, ap, subst, _∙_}
-use mathlib.Core.Bool.{Bool, true, false, cond, not, _&&_, _||_}
+use mathlib.Core.Bool.{Bool, true, false, not, _&&_, _||_}
 use mathlib.Core.List.{List, [], _∷_, _++_}
-use mathlib.Core.Logic.{_⊎_, inl, inr, ⊎-elim}
-use Prim.Native.Nat.{ℕ, zero, suc, _+_, _-_, _*_, _/_, _%_, _≤_, _<_}
+use mathlib.Core.Logic.{⊎-elim}
+use Prim.Native.Nat.{ℕ, _+_, _-_, _≤_, _<_}
 use native.Mathlib.Omega.{arith}
 use native.Mathlib.Nat.{add-zero}
 use lib.Dec.{eqb}
-use lib.ListN.{length, getD, set, take}
-use Rattle.std.proofs.shelf.Tests.{cases-eq, cases-lt, cases-bool, both-ways, ne-eqb, eq-eqb}
-use Rattle.std.proofs.shelf.Lists.{getD-set-same, getD-set-other, length-set, length-push, getD-append-left, getD-push, take-append-le}
-use Rattle.heap_model.specs.Objects.{Space, space, header, refs, plain, size, refs-in, plain-in, size-in, Start, Place, Pointer, weigh, Inside, Apart, Total, Counts, Near, Closed, Tiled, Sound}
+use lib.ListN.{length, getD, set}
+use Rattle.std.proofs.shelf.Tests.{cases-eq, cases-lt, cases-bool, both-ways, ne-eqb}
+use Rattle.std.proofs.shelf.Lists.{getD-set-same, getD-set-other, length-set, length-push, getD-push, take-append-le}
+use Rattle.heap_model.specs.Objects.{Space, space, header, refs, plain, size, Start, Place, weigh, Sound}
 use Rattle.heap_model.specs.Live.{Member}
 use Rattle.heap_model.specs.Packing.{span, packed}
-use Rattle.heap_model.specs.Moving.{has, noted, base, Renamed, waiting, Moving}
+use Rattle.heap_model.specs.Moving.{has, base, Renamed, waiting, Moving}
 use Rattle.heap_model.proofs.Spaces.{weigh-same, weigh-less, one-object, tiled-kept, Appended, appended-starts, tiled-appended}
-use Rattle.heap_model.proofs.Firsts.{member-has, absent-has, member-front, pushed-cases, has-member}
-use Rattle.heap_model.proofs.Spans.{span-push, span-none, base-all, base-more, base-rises, base-ends, one-packed, push-all, renamed-push}
+use Rattle.heap_model.proofs.Firsts.{member-has, absent-has, member-front, has-member}
+use Rattle.heap_model.proofs.Spans.{span-push, span-none, base-all, base-ends, one-packed, push-all, renamed-push}
 
 -- nothing is moved yet
 pub moving-none : (s : Space) (to : List ℕ) (starts : List Bool) → Sound s → s .used ≤ 16384 → s .used ≤ length (s .words) → s .used ≤ length to → s .used ≤ length starts

@@ -1,14 +1,14 @@
 -- The words of a list in order of first mention.
-use mathlib.Core.Path.{_≡_, refl, sym, ap, subst, _∙_}
-use mathlib.Core.Bool.{Bool, true, false, cond, _||_}
+use mathlib.Core.Path.{_≡_, refl, sym, subst, _∙_}
+use mathlib.Core.Bool.{true, false, _||_}
 use mathlib.Core.List.{List, [], _∷_, _++_, append-assoc, append-nil}
 use mathlib.Core.Logic.{_⊎_, inl, inr, ⊎-elim}
-use Prim.Native.Nat.{ℕ, zero, suc, _+_, _-_, _≤_, _<_}
+use Prim.Native.Nat.{ℕ, zero, suc, _+_, _≤_, _<_}
 use native.Mathlib.Omega.{arith}
 use lib.Dec.{eqb}
-use lib.ListN.{length, getD, take}
+use lib.ListN.{length, getD}
 use Rattle.std.specs.Iters.{folded}
-use Rattle.std.proofs.shelf.Tests.{cases-eq, cases-lt, cases-order, cases-bool, both-ways, or-cases, or-parts, or-from, or-left, or-right, eqb-true, eqb-false, eq-eqb, ne-eqb, true≢false}
+use Rattle.std.proofs.shelf.Tests.{cases-eq, cases-lt, cases-order, cases-bool, or-cases, or-parts, or-from, or-left, or-right, eqb-true, eqb-false, eq-eqb, ne-eqb, true≢false}
 use Rattle.std.proofs.shelf.Lists.{length-push, length-append, getD-push, getD-append-left}
 use Rattle.heap_model.specs.Live.{Member, First}
 use Rattle.heap_model.specs.Moving.{has, noted, firsts}

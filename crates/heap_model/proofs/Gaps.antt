@@ -1,13 +1,13 @@
 -- Objects lie without gaps.
 use mathlib.Core.Path.{_≡_, refl, sym, ap, subst, _∙_}
-use mathlib.Core.Bool.{Bool, true, false, cond}
+use mathlib.Core.Bool.{Bool, true, false}
 use mathlib.Core.List.{List}
 use mathlib.Core.Logic.{_⊎_, inl, inr, ⊎-elim}
-use Prim.Native.Nat.{ℕ, zero, suc, _+_, _-_, _≤_, _<_}
+use Prim.Native.Nat.{ℕ, zero, suc, _+_, _≤_, _<_}
 use native.Mathlib.Omega.{arith}
-use lib.ListN.{length, getD}
+use lib.ListN.{getD}
 use Rattle.std.proofs.shelf.Tests.{cases-eq, cases-lt, cases-order, cases-bool, both-ways}
-use Rattle.heap_model.specs.Objects.{Space, size-in, Start, weigh, Tiled, Gapless, No-gaps}
+use Rattle.heap_model.specs.Objects.{Space, size-in, Start, weigh, Tiled, Gapless}
 use Rattle.heap_model.proofs.Spaces.{weigh-start}
 
 abbrev end : Space → ℕ → ℕ
@@ -68,7 +68,8 @@ module _ (s : Space) (t : Tiled s) where
     no-gap : g < s .used → ⊥
     no-gap l = omega (arith, weigh-gap (s .used) (s .used) l (omega arith) l (λ i a b. t .inside i a), t .total)
 
-pub no-gaps : No-gaps
+-- objects that lie apart inside the used words, and whose sizes sum to them, leave no gap
+pub no-gaps : (s : Space) → Tiled s → Gapless s
 no-gaps s t = (
   λ l.
       ⊎-elim

@@ -10,7 +10,7 @@ use Rattle.std.specs.Joined.{joined}
 use Rattle.std.proofs.shelf.Tests.{cases-eq, cases-lt}
 use Rattle.std.proofs.shelf.Lists.{take-append-drop, take-more-same, take-all, getD-take}
 use Rattle.heap_model.specs.Objects.{Space}
-use Rattle.heap_model.specs.Live.{pointers, mentions, Member, First, Reached, by-root, by-field, Listing, One-listing}
+use Rattle.heap_model.specs.Live.{pointers, mentions, Member, First, Reached, by-root, by-field, Listing}
 use Rattle.heap_model.specs.Moving.{firsts}
 use Rattle.heap_model.proofs.Firsts.{Ordered, ordered-firsts, first-front, member-front, first-there}
 use Rattle.std.proofs.shelf.Lists.{length-append, getD-append-left, getD-append-right, length-take, getD-append-add}
@@ -79,7 +79,8 @@ fronts s roots ps qs a b (suc k) l =
     let h : k < length qs = omega (arith, x .1, x .2) in
     (omega arith, subst (λ n. take n ps ≡ take n qs) (add-one k) (take-more-same ps qs k 0 (omega arith) h (r .1) (agree s roots ps qs a b k (omega arith) h (r .1))))
 
-pub one-listing : One-listing
+-- a space and its roots have one listing at most
+pub one-listing : (s : Space) (roots ps qs : List ℕ) → Listing s roots ps → Listing s roots qs → ps ≡ qs
 one-listing s roots ps qs a b =
     let f : (length ps ≤ length qs) × (take (length ps) ps ≡ take (length ps) qs) = fronts s roots ps qs a b (length ps) (omega arith) in
     let g : (length qs ≤ length ps) × (take (length qs) qs ≡ take (length qs) ps) = fronts s roots qs ps b a (length qs) (omega arith) in

@@ -1,12 +1,12 @@
 -- An object is laid and marked behind the others.
 use mathlib.Core.Path.{_≡_, refl, sym, ap, subst, _∙_}
-use mathlib.Core.Bool.{Bool, true, false}
+use mathlib.Core.Bool.{Bool}
 use mathlib.Core.List.{List}
-use mathlib.Core.Logic.{_⊎_, inl, inr, ⊎-elim}
-use Prim.Native.Nat.{ℕ, _+_, _-_, _*_, _≤_, _<_}
+use mathlib.Core.Logic.{inl, inr, ⊎-elim}
+use Prim.Native.Nat.{ℕ, _+_, _-_, _*_, _≤_}
 use native.Mathlib.Omega.{arith}
-use lib.ListN.{length, getD}
-use Rattle.heap_model.specs.Objects.{Space, space, Start, Place, refs-in, plain-in, size-in, Sound}
+use lib.ListN.{getD}
+use Rattle.heap_model.specs.Objects.{Space, space, Start, refs-in, plain-in, Sound}
 use Rattle.heap_model.specs.Making.{Made}
 use Rattle.heap_model.specs.Steps.{Marked, Laid}
 use Rattle.heap_model.proofs.Spaces.{Appended, appended-starts, appended-old, appended-new}

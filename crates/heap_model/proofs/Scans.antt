@@ -3,20 +3,20 @@ use mathlib.Core.Path.{_≡_, refl, sym, ap, subst, _∙_}
 use mathlib.Core.Bool.{Bool, true, false}
 use mathlib.Core.List.{List, [], _∷_, _++_, append-assoc, append-nil}
 use mathlib.Core.Logic.{_⊎_, inl, inr, ⊎-elim}
-use Prim.Native.Nat.{ℕ, zero, suc, _+_, _-_, _≤_, _<_}
+use Prim.Native.Nat.{ℕ, _+_, _-_, _≤_, _<_}
 use native.Mathlib.Omega.{arith}
 use lib.ListN.{length, getD, set, take, drop}
 use Rattle.std.specs.Joined.{joined}
 use Rattle.std.proofs.shelf.Tests.{cases-eq, cases-lt, cases-bool, cases-order}
 use Rattle.std.proofs.shelf.Sums.{folded-push}
-use Rattle.std.proofs.shelf.Lists.{getD-set-same, getD-set-other, length-set, length-push, getD-append-left, getD-push, take-append-le, take-all, take-more, length-take-le, length-drop, getD-take, getD-drop, length-append, getD-append-add}
-use Rattle.heap_model.specs.Objects.{Space, refs, plain, size, header, Place, Pointer, Sound}
+use Rattle.std.proofs.shelf.Lists.{getD-set-same, getD-set-other, length-set, length-push, getD-append-left, getD-push, take-append-le, take-all, take-more, length-take-le, length-drop, getD-take, getD-drop}
+use Rattle.heap_model.specs.Objects.{Space, refs, size, header, Place, Pointer, Sound}
 use Rattle.heap_model.specs.Live.{Member, pointers, mentions}
-use Rattle.heap_model.specs.Packing.{span, packed}
+use Rattle.heap_model.specs.Packing.{span}
 use Rattle.heap_model.specs.Moving.{has, noted, firsts, base, Renamed, Moving, Early, Rooting, Scanning, Fielding}
 use Rattle.heap_model.proofs.Firsts.{has-member, has-not, noted-zero, noted-had, noted-new, member-front}
 use Rattle.heap_model.proofs.Listings.{joined-append, member-back, member-joined}
-use Rattle.heap_model.proofs.Spans.{base-all, base-more, base-rises, base-ends, one-packed, renamed-push, span-none}
+use Rattle.heap_model.proofs.Spans.{base-more, base-rises, base-ends, one-packed, renamed-push, span-none}
 use Rattle.heap_model.proofs.Copying.{moving-none, moving-on, moving-field}
 use Rattle.heap_model.proofs.Changes.{pointer-at}
 

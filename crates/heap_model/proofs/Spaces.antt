@@ -1,15 +1,14 @@
 -- Laws of spaces: an object appended, headers unchanged, one index in one object.
 use mathlib.Core.Path.{_≡_, refl, sym, ap, subst, _∙_}
-use mathlib.Core.Bool.{Bool, true, false, cond, not, _&&_, _||_}
-use mathlib.Core.List.{List, [], _∷_, _++_}
+use mathlib.Core.Bool.{Bool, true, false, cond}
+use mathlib.Core.List.{List}
 use mathlib.Core.Logic.{_⊎_, inl, inr, ⊎-elim}
-use Prim.Native.Nat.{ℕ, zero, suc, _+_, _-_, _*_, _/_, _%_, _≤_, _<_}
+use Prim.Native.Nat.{ℕ, zero, suc, _+_, _≤_, _<_}
 use native.Mathlib.Omega.{arith}
-use native.Mathlib.Numerals.{add-one}
 use native.Mathlib.Nat.{add-zero}
-use lib.ListN.{length, getD, set, take}
+use lib.ListN.{getD}
 use Rattle.std.proofs.shelf.Tests.{cases-eq, cases-lt, cases-order, cases-bool, both-ways}
-use Rattle.heap_model.specs.Objects.{Space, space, refs-in, plain-in, size-in, Start, Place, weigh, Inside, Apart, Total, Counts, Near, Closed, Tiled, Sound}
+use Rattle.heap_model.specs.Objects.{Space, space, refs-in, plain-in, size-in, Start, weigh, Tiled}
 
 -- the same picks and the same headers weigh the same
 pub weigh-same : (t u : ℕ → Bool) (ws vs : List ℕ) (n : ℕ) → ((i : ℕ) → i < n → t i ≡ u i) → ((i : ℕ) → i < n → t i ≡ true → getD ws i 0 ≡ getD vs i 0) → weigh t ws n ≡ weigh u vs n

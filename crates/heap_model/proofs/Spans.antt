@@ -1,9 +1,9 @@
 -- Where packed objects lie, and the renaming.
 use mathlib.Core.Path.{_≡_, refl, sym, ap, subst, _∙_}
-use mathlib.Core.Bool.{Bool, true, false, cond}
+use mathlib.Core.Bool.{true, false}
 use mathlib.Core.List.{List, [], _∷_, _++_}
 use mathlib.Core.Logic.{_⊎_, inl, inr, ⊎-elim}
-use Prim.Native.Nat.{ℕ, zero, suc, _+_, _-_, _≤_, _<_}
+use Prim.Native.Nat.{ℕ, zero, suc, _+_, _≤_, _<_}
 use native.Mathlib.Omega.{arith}
 use native.Mathlib.Numerals.{add-one}
 use native.Mathlib.Nat.{add-assoc}
@@ -11,7 +11,7 @@ use lib.Dec.{eqb}
 use lib.ListN.{length, getD, take}
 use Rattle.std.proofs.shelf.Tests.{cases-eq, cases-lt, cases-order, eq-eqb, ne-eqb}
 use Rattle.std.proofs.shelf.Lists.{take-append-le, take-all, take-more, getD-push, getD-append-left, length-push}
-use Rattle.heap_model.specs.Objects.{Space, header, refs-in, plain-in, size}
+use Rattle.heap_model.specs.Objects.{Space, size}
 use Rattle.heap_model.specs.Live.{Member}
 use Rattle.heap_model.specs.Packing.{span, packed, renamed-from, renamed, Renaming}
 use Rattle.heap_model.specs.Moving.{base, Renamed}

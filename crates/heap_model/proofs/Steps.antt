@@ -1,18 +1,18 @@
 -- The steps of a copy on plain buffers.
 use mathlib.Core.Path.{_≡_, refl, sym, ap, subst, _∙_}
-use mathlib.Core.Bool.{Bool, true, false}
+use mathlib.Core.Bool.{Bool}
 use mathlib.Core.List.{List, [], _∷_, _++_}
-use mathlib.Core.Logic.{_⊎_, inl, inr, ⊎-elim}
-use Prim.Native.Nat.{ℕ, zero, suc, _+_, _-_, _≤_, _<_}
+use mathlib.Core.Logic.{inl, inr}
+use Prim.Native.Nat.{ℕ, _+_, _-_, _≤_, _<_}
 use native.Mathlib.Omega.{arith}
 use borrow.Rule.Slice.PartMut.{putMid}
-use lib.ListN.{length, getD, set, take, drop}
+use lib.ListN.{length, getD, set}
 use Rattle.std.specs.Holes.{between}
 use Rattle.std.proofs.shelf.Edits.{length-between}
 use Rattle.heap_model.specs.Objects.{Space, Place, Pointer, header, size, size-in}
 use Rattle.heap_model.specs.Live.{Member}
 use Rattle.heap_model.specs.Moving.{Moving, Renamed, noted}
-use Rattle.heap_model.specs.Steps.{Marked, Waits, Movable, Forwarded}
+use Rattle.heap_model.specs.Steps.{Marked, Waits, Forwarded}
 use Rattle.heap_model.proofs.Buffers.{put-below, put-inner, put-length, cut-at}
 use Rattle.heap_model.proofs.Copying.{room-for, header-there, Landed, moving-more, told-there, waits-there}
 use Rattle.heap_model.proofs.Firsts.{noted-zero, noted-had, noted-new}

@@ -1,7 +1,7 @@
 -- The live objects of a space, listed from the root words.
 use mathlib.Core.Path.{_≡_}
 use mathlib.Core.List.{List, _++_}
-use Prim.Native.Nat.{ℕ, _≤_, _<_}
+use Prim.Native.Nat.{ℕ, _<_}
 use lib.ListN.{length, getD, take, drop}
 use Rattle.std.specs.Joined.{joined}
 use Rattle.heap_model.specs.Objects.{Space, refs}
@@ -39,7 +39,3 @@ pub record Listing (s : Space) (roots ps : List ℕ) : Type 0 where
   pub closed : (w : ℕ) → 0 < w → Member w (mentions s roots ps) → Member w ps
   -- they stand in the order in which they are first mentioned
   pub ordered : (i k m n : ℕ) → i < k → k < length ps → First (mentions s roots ps) (getD ps i 0) m → First (mentions s roots ps) (getD ps k 0) n → m < n
-
--- a space and its roots have one such list at most
-abbrev pub One-listing : Type 0
-One-listing = (s : Space) (roots ps qs : List ℕ) → Listing s roots ps → Listing s roots qs → ps ≡ qs

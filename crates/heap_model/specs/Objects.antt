@@ -3,8 +3,8 @@ use mathlib.Core.Path.{_≡_}
 use mathlib.Core.Bool.{Bool, true, false, cond}
 use mathlib.Core.List.{List}
 use mathlib.Core.Logic.{_⊎_}
-use Prim.Native.Nat.{ℕ, zero, suc, _+_, _-_, _*_, _/_, _%_, _≤_, _<_}
-use lib.ListN.{length, getD}
+use Prim.Native.Nat.{ℕ, zero, suc, _+_, _-_, _/_, _%_, _≤_, _<_}
+use lib.ListN.{getD}
 
 -- the words, which of them are headers, and how many words are in use; what lies behind those is free
 pub record Space : Type 0 where
@@ -97,7 +97,3 @@ pub record Sound (s : Space) : Type 0 where
 -- the first object begins at index 0, and where an object ends the next begins or the used words end
 abbrev pub Gapless : Space → Type 0
 Gapless s = (0 < s .used → Start s 0) × ((i : ℕ) → Start s i → (i + size-in (getD (s .words) i 0) ≡ s .used) ⊎ Start s (i + size-in (getD (s .words) i 0)))
-
--- disjoint objects whose sizes sum to the used words lie so
-abbrev pub No-gaps : Type 0
-No-gaps = (s : Space) → Tiled s → Gapless s

@@ -6,22 +6,23 @@ use Prim.Native.Nat.{ℕ, _+_, _≤_, _<_}
 use lib.ListN.{length, getD}
 use Rattle.heap_model.specs.Objects.{Space, space, Place, Pointer, Sound}
 use Rattle.heap_model.specs.Live.{Member, mentions}
-use Rattle.heap_model.specs.Moving.{Moving, Renamed, noted, firsts, Early, Rooting, Scanning, Fielding}
+use Rattle.heap_model.specs.Moving.{Moving, Renamed, noted, firsts, Early, Rooting, Scanning}
 use Rattle.heap_model.specs.Packing.{Collected}
 
--- a header is marked at index `at`, and none in the words behind it; marks below stay
-pub record Marked (was now′ : List Bool) (at size : ℕ) : Type 0 where
+-- `first` is written at index `at`, and `rest` into the entries behind it, `size` in all; entries below stay
+pub record Written {X : Type 0} (was now′ : List X) (none : X) (at size : ℕ) (first rest : X) : Type 0 where
   pub long : length now′ ≡ length was
-  pub below : (i : ℕ) → i < at → getD now′ i false ≡ getD was i false
-  pub here : getD now′ at false ≡ true
-  pub inner : (i : ℕ) → at < i → i < at + size → getD now′ i false ≡ false
+  pub below : (i : ℕ) → i < at → getD now′ i none ≡ getD was i none
+  pub here : getD now′ at none ≡ first
+  pub inner : (i : ℕ) → at < i → i < at + size → getD now′ i none ≡ rest
 
--- a header is written at index `at`, and 0 into the words behind it; words below stay
-pub record Laid (was now′ : List ℕ) (at head size : ℕ) : Type 0 where
-  pub long : length now′ ≡ length was
-  pub below : (i : ℕ) → i < at → getD now′ i 0 ≡ getD was i 0
-  pub here : getD now′ at 0 ≡ head
-  pub inner : (i : ℕ) → at < i → i < at + size → getD now′ i 0 ≡ 0
+-- a header is marked at index `at`, and none in the words behind it
+abbrev pub Marked : List Bool → List Bool → ℕ → ℕ → Type 0
+Marked was now′ at size = Written was now′ false at size true false
+
+-- a header is written at index `at`, and 0 into the words behind it
+abbrev pub Laid : List ℕ → List ℕ → ℕ → ℕ → ℕ → Type 0
+Laid was now′ at head size = Written was now′ 0 at size head 0
 
 -- the object at place p waits in a copy in progress
 abbrev pub Waits : List ℕ → List ℕ → List Bool → ℕ → ℕ → Type 0

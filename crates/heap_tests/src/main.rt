@@ -107,8 +107,9 @@ fn full(heap: &mut Heap) -> [u32; 7] {
     ]
 }
 
-fn main(rt: LibcRuntime) -> io::Result<()> {
-    let three = [
+// Objects (1, 1), (0, 2) and (0, 0), the first naming the second, collected from the first and from both the other way round.
+fn orders(rt: &LibcRuntime) -> io::Result<()> {
+    let forth = [
         Call::Make(1, 1),
         Call::Make(0, 2),
         Call::Make(0, 0),
@@ -117,8 +118,8 @@ fn main(rt: LibcRuntime) -> io::Result<()> {
         Call::Store(4, 1, 4),
         Call::Collect(1, [1, 0, 0, 0]),
     ];
-    play(&rt, 16, 16, &three)?;
-    let other_order = [
+    play(rt, 16, 16, &forth)?;
+    let back = [
         Call::Make(1, 1),
         Call::Make(0, 2),
         Call::Make(0, 0),
@@ -129,8 +130,12 @@ fn main(rt: LibcRuntime) -> io::Result<()> {
         Call::Make(0, 1),
         Call::Collect(0, [0, 0, 0, 0]),
     ];
-    play(&rt, 16, 16, &other_order)?;
-    let refusals = [
+    play(rt, 16, 16, &back)
+}
+
+// Calls that are refused, among others that are not.
+fn refusals(rt: &LibcRuntime) -> io::Result<()> {
+    let calls = [
         Call::Make(1, 1),
         Call::Make(0, 2),
         Call::Make(0, 0),
@@ -155,8 +160,12 @@ fn main(rt: LibcRuntime) -> io::Result<()> {
         Call::Collect(4, [7, 8, 1, 16]),
         Call::Collect(4, [1, 10, 2, 13]),
     ];
-    play(&rt, 16, 16, &refusals)?;
-    let cycles = [
+    play(rt, 16, 16, &calls)
+}
+
+// An object that names itself, and two that name each other.
+fn cycles(rt: &LibcRuntime) -> io::Result<()> {
+    let calls = [
         Call::Make(0, 1),
         Call::Make(1, 0),
         Call::Make(1, 0),
@@ -167,7 +176,13 @@ fn main(rt: LibcRuntime) -> io::Result<()> {
         Call::Collect(2, [7, 3, 0, 0]),
         Call::Collect(1, [5, 0, 0, 0]),
     ];
-    play(&rt, 16, 16, &cycles)?;
+    play(rt, 16, 16, &calls)
+}
+
+fn main(rt: LibcRuntime) -> io::Result<()> {
+    orders(&rt)?;
+    refusals(&rt)?;
+    cycles(&rt)?;
     play(&rt, 15, 16, &[])?;
     play(&rt, 16_385, 1, &[])?;
     play(&rt, 16, 17, &[])?;

@@ -8,6 +8,8 @@ use Rattle.std.specs.Joined.{joined}
 use Rattle.std.specs.Of.String.{string-bytes}
 use Rattle.std.specs.Orderings.{When}
 use Rattle.std.specs.Written.{decimal}
+use Rattle.delta_image.specs.Buckets.{Delta-means}
+use Rattle.delta_map.specs.Faults.{Refused-delta}
 use Rattle.frame_map.specs.Texts.{entry-text}
 use Rattle.frame_map.specs.declared.row.Entry.{Entry}
 use Rattle.refusal.specs.Numbers.{number-of}
@@ -43,3 +45,17 @@ pub record Bad-file (bytes text : List ℕ) : Type 0 where
 -- a report accepts exactly the good files, and its text shows the rows or the refusal
 abbrev pub Reports : List ℕ → Report → Type 0
 Reports bytes p = When (p .accepted) (Good-file bytes (string-bytes (p .text))) (Bad-file bytes (string-bytes (p .text)))
+
+-- the same of delta images
+pub record Good-delta (image text : List ℕ) : Type 0 where
+  pub entries : List Entry
+  pub means : Delta-means image entries
+  pub told : text ≡ rows-text entries
+
+pub record Bad-delta (image text : List ℕ) : Type 0 where
+  pub reason : Refusal
+  pub refused : Refused-delta image reason
+  pub told : text ≡ refusal-line reason
+
+abbrev pub Delta-reports : List ℕ → Report → Type 0
+Delta-reports image p = When (p .accepted) (Good-delta image (string-bytes (p .text))) (Bad-delta image (string-bytes (p .text)))

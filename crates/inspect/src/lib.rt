@@ -2,9 +2,12 @@
 ghost use mathlib.Core.Path.{_≡_};
 ghost use Prim.Native.Nat.{_^_};
 ghost use Rattle.std.specs.Of.String.{string-bytes};
+ghost use Rattle.std.specs.Of.Vec.{vec-items};
 ghost use Rattle.std.specs.Vec.{made};
 ghost use Rattle.frame_map.specs.Maps.{entries-below};
-ghost use Rattle.inspect.specs.Reports.{Reports, refusal-line, rows-text};
+ghost use Rattle.inspect.specs.Reports.{Reports, Delta-reports, refusal-line, rows-text};
+use delta_map::DeltaFrameMap;
+use delta_map::DeltaMap;
 use frame_map::EntryDisplay;
 use frame_map::FrameMap;
 use frame_map::entries;
@@ -62,5 +65,24 @@ pub fn inspect_sorted(heap: Global, bytes: &[u8]) -> Result<Report, AllocError>
             Ok(Report { text, accepted })
         }
         Err(LoadError::NoMemory) => Err(AllocError),
+    }
+}
+
+// Inspects a delta image: its rows, or where it is bad.
+pub fn inspect_delta(heap: Global, image: Vec<u8>) -> Result<Report, AllocError>
+    ensures { λ r. ⌜ made r (Delta-reports (vec-items image)) ⌝ }
+{
+    match DeltaMap::new(image) {
+        Ok(loaded) => {
+            let mut map = loaded;
+            let text = rows_text(&mut map, heap)?;
+            let accepted = true;
+            Ok(Report { text, accepted })
+        }
+        Err(reason) => {
+            let text = refusal_text(heap, &reason)?;
+            let accepted = false;
+            Ok(Report { text, accepted })
+        }
     }
 }

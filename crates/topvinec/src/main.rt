@@ -2,6 +2,7 @@
 mod demo;
 
 use demo::heap_demo;
+use inspect::inspect_delta;
 use inspect::inspect_sorted;
 use std::env;
 use std::error::AnyError;
@@ -13,6 +14,7 @@ const HELP: &str = "topvinec: frame maps and heaps of scripts
 
   topvinec inspect sorted FILE    read a sorted map image (32-bit words, low byte first)
                                   and print its rows, or where it is broken
+  topvinec inspect delta FILE     the same for a delta map image (bytes)
   topvinec heap-demo              collect a small heap with sharing, a cycle and garbage,
                                   and print its words before and after
   topvinec help                   print this text
@@ -28,6 +30,7 @@ Example: topvinec inspect sorted examples/three_rows.map
 enum Command {
     Help,
     HeapDemo,
+    InspectDelta(String),
     InspectSorted(String),
     // No command: why not.
     Wrong(&'static str),
@@ -36,14 +39,15 @@ enum Command {
 // The command after `inspect`: the image's kind, then the file.
 fn parse_inspect(kind: Option<String>, file: Option<String>) -> Command {
     let Some(kind) = kind else {
-        return Command::Wrong("inspect what? (inspect sorted FILE)");
+        return Command::Wrong("inspect what? (inspect sorted FILE, or inspect delta FILE)");
     };
-    if kind.as_str() != "sorted" {
-        return Command::Wrong("no such kind of image (inspect sorted FILE)");
-    }
-    match file {
-        Some(file) => Command::InspectSorted(file),
-        None => Command::Wrong("which file? (inspect sorted FILE)"),
+    let Some(file) = file else {
+        return Command::Wrong("which file? (inspect sorted FILE, or inspect delta FILE)");
+    };
+    match kind.as_str() {
+        "delta" => Command::InspectDelta(file),
+        "sorted" => Command::InspectSorted(file),
+        _ => Command::Wrong("no such kind of image (inspect sorted FILE, or inspect delta FILE)"),
     }
 }
 
@@ -76,15 +80,31 @@ fn read_file(rt: &LibcRuntime, name: &str) -> io::Result<Vec<u8>> {
     fs::read(rt, name)
 }
 
-fn inspect(rt: &LibcRuntime, name: &str) -> Result<bool, AnyError> {
-    let bytes = match read_file(rt, name) {
-        Ok(bytes) => bytes,
+// A file's bytes, or a message to standard error where it cannot be read.
+fn read_or_tell(rt: &LibcRuntime, name: &str) -> Result<Option<Vec<u8>>, AnyError> {
+    match read_file(rt, name) {
+        Ok(bytes) => Ok(Some(bytes)),
         Err(e) => {
             eprintln!(rt, "topvinec: cannot read {name}: {e}")?;
-            return Ok(false);
+            Ok(None)
         }
+    }
+}
+
+fn show_sorted(rt: &LibcRuntime, name: &str) -> Result<bool, AnyError> {
+    let Some(bytes) = read_or_tell(rt, name)? else {
+        return Ok(false);
     };
     let report = inspect_sorted(rt.alloc(), bytes.as_slice())?;
+    rt.print(report.text.as_str())?;
+    Ok(report.accepted)
+}
+
+fn show_delta(rt: &LibcRuntime, name: &str) -> Result<bool, AnyError> {
+    let Some(bytes) = read_or_tell(rt, name)? else {
+        return Ok(false);
+    };
+    let report = inspect_delta(rt.alloc(), bytes)?;
     rt.print(report.text.as_str())?;
     Ok(report.accepted)
 }
@@ -97,7 +117,8 @@ fn run(rt: &LibcRuntime) -> Result<bool, AnyError> {
             Ok(true)
         }
         Command::HeapDemo => heap_demo(rt),
-        Command::InspectSorted(name) => inspect(rt, name.as_str()),
+        Command::InspectDelta(name) => show_delta(rt, name.as_str()),
+        Command::InspectSorted(name) => show_sorted(rt, name.as_str()),
         Command::Wrong(why) => {
             eprintln!(rt, "topvinec: {why}")?;
             Ok(false)

@@ -1,7 +1,5 @@
 use native.Mathlib.Omega.{arith}
-use borrow.Author.Needs.{needs}
 use lib.ListN.{length}
-use Rattle.heap_model.specs.Objects.{Space}
 use Rattle.heap_model.specs.Steps.{Rooted}
 use Rattle.heap_model.proofs.Scans.{scanning-none}
 use Rattle.heap_model.proofs.Collections.{gathered}

@@ -1,7 +1,5 @@
-use mathlib.Core.Path.{_≡_, refl, sym, ap, subst, _∙_}
-use native.Mathlib.Omega.{arith}
+use mathlib.Core.Path.{refl}
 use borrow.Author.Needs.{needs}
-use Prim.Native.Nat.{ℕ, _+_, _-_, _≤_, _<_}
 use Rattle.heap_model.proofs.Steps.{forwarded-none, forwarded-told, forwarded-new}
 use Rattle.heap_model.proofs.Copying.{waits-there}
 use Rattle.heap.proofs.copy.forward.Needs as need

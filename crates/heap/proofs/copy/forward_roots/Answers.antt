@@ -1,11 +1,10 @@
-use mathlib.Core.List.{List}
 use native.Mathlib.Omega.{arith}
 use borrow.Author.Needs.{needs}
-use Prim.Native.Nat.{ℕ, _+_, _≤_, _<_}
-use mathlib.Core.Path.{_≡_, refl, sym, ap, subst, _∙_}
+use Prim.Native.Nat.{_<_}
+use mathlib.Core.Path.{_≡_, sym, subst}
 use lib.ListN.{length, getD}
-use Rattle.heap_model.specs.Objects.{Space, Pointer}
-use Rattle.heap_model.specs.Moving.{Rooting, noted}
+use Rattle.heap_model.specs.Objects.{Pointer}
+use Rattle.heap_model.specs.Moving.{noted}
 use Rattle.heap_model.specs.Steps.{Rooted, Forwarded}
 use Rattle.heap_model.proofs.Scans.{rooting-more}
 use Rattle.heap.proofs.copy.forward_roots.Needs as need

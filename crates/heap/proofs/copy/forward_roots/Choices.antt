@@ -1,4 +1,4 @@
-use mathlib.Core.List.{List, []}
+use mathlib.Core.List.{[]}
 use Rattle.heap_model.specs.Objects.{Space}
 use Rattle.heap_model.specs.Moving.{Rooting}
 use Rattle.heap_model.specs.Steps.{Rooted}

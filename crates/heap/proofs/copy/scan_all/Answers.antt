@@ -1,11 +1,8 @@
-use mathlib.Core.Path.{_≡_, refl, sym, ap, subst, _∙_}
-use mathlib.Core.List.{List}
-use native.Mathlib.Omega.{arith}
+use mathlib.Core.Path.{sym, subst}
 use borrow.Author.Needs.{needs}
-use Prim.Native.Nat.{ℕ, _+_, _≤_, _<_}
-use lib.ListN.{length, getD}
-use Rattle.heap_model.specs.Objects.{Space, size-in}
-use Rattle.heap_model.specs.Moving.{Scanning, Moving}
+use Prim.Native.Nat.{ℕ, _+_, _<_}
+use lib.ListN.{length}
+use Rattle.heap_model.specs.Moving.{Moving}
 use Rattle.heap_model.specs.Steps.{Scanned}
 use Rattle.heap_model.proofs.Scans.{scan-next}
 use Rattle.heap_model.proofs.Collections.{scanned-all}

@@ -1,15 +1,14 @@
 use mathlib.Core.Path.{_≡_, refl, sym, ap, subst, _∙_}
 use mathlib.Core.List.{List}
-use mathlib.Core.Bool.{Bool}
 use native.Mathlib.Omega.{arith}
 use native.Mathlib.Nat.{add-zero}
 use borrow.Author.Needs.{needs}
-use Prim.Native.Nat.{ℕ, _+_, _-_, _≤_, _<_}
-use lib.ListN.{length, getD, set}
-use Rattle.heap_model.specs.Objects.{Space, refs-in, refs, size, size-in, header, Pointer}
-use Rattle.heap_model.specs.Moving.{Scanning, Fielding, noted, base}
+use Prim.Native.Nat.{ℕ, _+_, _≤_, _<_}
+use lib.ListN.{getD, set}
+use Rattle.heap_model.specs.Objects.{refs-in, refs, size-in, header, Pointer}
+use Rattle.heap_model.specs.Moving.{Fielding, noted}
 use Rattle.heap_model.specs.Steps.{Forwarded, Keeps}
-use Rattle.heap_model.proofs.Scans.{scan-head, scan-inside, field-inside, field-good, fielding-none, fielding-more, fielding-all, noted-grows, renamed-noted}
+use Rattle.heap_model.proofs.Scans.{scan-head, scan-inside, field-good, fielding-none, fielding-more, fielding-all, noted-grows, renamed-noted}
 use Rattle.heap.proofs.copy.scan_object.Needs as need
 
 pub index-to-scan : need.index-to-scan

@@ -1,8 +1,8 @@
 use mathlib.Core.Path.{_≡_}
 use mathlib.Core.List.{List}
-use Prim.Native.Nat.{ℕ, _+_, _≤_, _<_}
+use Prim.Native.Nat.{ℕ, _+_, _<_}
 use lib.ListN.{length, getD}
-use Rattle.heap_model.specs.Objects.{Space, refs-in, refs, header}
+use Rattle.heap_model.specs.Objects.{Space}
 use Rattle.heap_model.specs.Moving.{Scanning, Fielding}
 use Rattle.heap_model.specs.Steps.{Keeps}
 use Rattle.heap.proofs.copy.scan_object.Given as given

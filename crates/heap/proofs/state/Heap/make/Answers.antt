@@ -1,14 +1,12 @@
-use native.Mathlib.Omega.{arith}
-use mathlib.Core.Path.{_≡_, refl, sym, ap, subst, _∙_}
+use mathlib.Core.Path.{_≡_, refl, sym, subst}
 use mathlib.Core.List.{List}
 use mathlib.Core.Bool.{Bool}
 use borrow.Author.Needs.{needs}
-use Prim.Native.Nat.{ℕ, _+_, _-_, _≤_, _<_}
-use lib.ListN.{length, getD, set}
-use Rattle.std.specs.Of.Vec.{vec-items, vec-len}
+use Prim.Native.Nat.{ℕ, _+_}
+use Rattle.std.specs.Of.Vec.{vec-items}
 use Rattle.std.specs.Changed.{refilled}
 use Rattle.std.proofs.shelf.Lists.{refilled-is}
-use Rattle.heap_model.specs.Objects.{Space, space, Sound}
+use Rattle.heap_model.specs.Objects.{space, Sound}
 use Rattle.heap_model.specs.Making.{Made}
 use Rattle.heap_model.proofs.Makes.{made-sound, made-is}
 use Rattle.heap.specs.declared.state.Heap.{Heap}

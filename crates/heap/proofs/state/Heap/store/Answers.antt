@@ -1,10 +1,10 @@
 use native.Mathlib.Omega.{arith}
-use mathlib.Core.Path.{_≡_, refl, sym, ap, subst, _∙_}
+use mathlib.Core.Path.{_≡_, ap}
 use borrow.Author.Needs.{needs}
-use Prim.Native.Nat.{ℕ, _+_, _-_, _≤_, _<_}
-use lib.ListN.{length, getD, set}
+use Prim.Native.Nat.{ℕ, _+_, _-_, _<_}
+use lib.ListN.{set}
 use Rattle.std.specs.Of.Vec.{vec-items, vec-len}
-use Rattle.heap_model.specs.Objects.{Space, space, Sound, Place, Pointer, refs, plain, header, size-in, refs-in}
+use Rattle.heap_model.specs.Objects.{space, Sound, Place, Pointer, refs, plain, header, size-in, refs-in}
 use Rattle.std.proofs.shelf.Lists.{getD-read-under}
 use Rattle.heap_model.proofs.Changes.{sound-stored}
 use Rattle.heap.specs.declared.state.Heap.{Heap}

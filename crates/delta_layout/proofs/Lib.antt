@@ -1,0 +1,4 @@
+pub mod CodeLaws
+pub mod MaskLaws
+pub mod ParseLaws
+pub mod SlotLaws

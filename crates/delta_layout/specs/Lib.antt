@@ -1,0 +1,3 @@
+pub mod Bytes
+pub mod Codes
+pub mod Parsing

@@ -1,0 +1,4 @@
+pub mod BucketLaws
+pub mod FindLaws
+pub mod MapLaws
+pub mod StartLaws
