@@ -48,7 +48,7 @@ fn collected(rt: &LibcRuntime, heap: &mut Heap) -> Result<Result<(), Refusal>, A
 }
 
 // Whether all went well.
-pub fn heap_demo(rt: &LibcRuntime) -> Result<bool, AnyError> {
+pub(crate) fn heap_demo(rt: &LibcRuntime) -> Result<bool, AnyError> {
     let memory = rt.alloc();
     let words = vec![in memory; 0u32; WORDS]?;
     let idle = vec![in memory; 0u32; WORDS]?;
