@@ -1,4 +1,6 @@
 // The calls on a machine and its heaps, and their answers, as values.
+#![tactic(auto)]
+
 use refusal::Refusal;
 
 // One call. Calls on a heap name it by its number; the last four look and alter nothing.

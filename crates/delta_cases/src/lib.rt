@@ -1,4 +1,6 @@
 // A row's code byte by byte, written and read.
+#![tactic(auto)]
+
 #[cfg(test)]
 mod tests {
     use delta_code::Reader;

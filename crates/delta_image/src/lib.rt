@@ -1,4 +1,6 @@
 // Buckets of the delta image.
+#![tactic(auto)]
+
 ghost use Rattle.std.specs.Prelude.{◌≡◌};
 ghost use Rattle.delta_image.specs.Buckets.{bucket_of};
 

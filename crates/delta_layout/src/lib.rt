@@ -1,4 +1,6 @@
 // How a row of a compact map image is coded against the row before it.
+#![tactic(auto)]
+
 ghost use Rattle.std.specs.Prelude.{◌≡◌};
 ghost use Rattle.delta_layout.specs.Codes.{origin};
 

@@ -1,4 +1,6 @@
 // The delta map: compact images of rows in buckets.
+#![tactic(auto)]
+
 mod check;
 mod faults;
 mod map;

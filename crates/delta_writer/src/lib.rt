@@ -1,4 +1,6 @@
 // Writing a row's code against the row before it.
+#![tactic(auto)]
+
 ghost use Rattle.std.specs.Prelude.{◌≡◌, ◌+◌, ◌^◌, ◌<◌, ◌≤◌, [], ◌∷◌, length, MatchOption};
 ghost use Rattle.delta_layout.specs.Bytes.{bytes};
 ghost use Rattle.delta_layout.specs.Codes.{flag, changed, resized, moved_mask, resaved, step_code, code_bits, code};

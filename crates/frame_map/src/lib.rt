@@ -1,4 +1,6 @@
 // Frame maps: what a frame that stands at a point of the script's code holds.
+#![tactic(auto)]
+
 mod map;
 mod row;
 mod show;

@@ -1,4 +1,6 @@
 // The state of a machine: its frames, registers, handlers, markers and what was learned of its frames; and the model that it stands for.
+#![tactic(auto)]
+
 mod falls;
 mod fitting;
 mod memory;

@@ -1,4 +1,6 @@
 // A heap of objects with pointer fields and plain fields, collected by copying.
+#![tactic(auto)]
+
 mod buffers;
 mod collect;
 mod copy;

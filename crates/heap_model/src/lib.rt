@@ -1,4 +1,6 @@
 // Objects as words: what a header tells. The meaning of a heap and of a collection, with the laws that the code rests on, is in specs/ and proofs/.
+#![tactic(auto)]
+
 ghost use Rattle.std.specs.Prelude.{◌≡◌};
 ghost use Rattle.heap_model.specs.Objects.{refs_in, size_in};
 

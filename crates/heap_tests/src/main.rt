@@ -1,4 +1,6 @@
 // Small heaps, call by call: what each call answers, and what the heap holds after a collection.
+#![tactic(auto)]
+
 use heap::Heap;
 use refusal::Refusal;
 use std::io;

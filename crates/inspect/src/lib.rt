@@ -1,4 +1,6 @@
 // What the program prints of an image file.
+#![tactic(auto)]
+
 ghost use Rattle.std.specs.Prelude.{◌≡◌, ◌^◌, IfOk, string_bytes};
 ghost use Rattle.frame_map.specs.Maps.{entries_below};
 ghost use Rattle.inspect.specs.Reports.{Reports, DeltaReports, refusal_line, text_of_rows};

@@ -1,4 +1,6 @@
 // Scanning a stack: frames are decoded by the map's rows, and their roots listed.
+#![tactic(auto)]
+
 mod decode;
 mod list;
 

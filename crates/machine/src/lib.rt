@@ -1,4 +1,6 @@
 // A machine: frames, handlers and registers of a running script, over any frame map and any stack memory.
+#![tactic(auto)]
+
 mod handlers;
 mod machine;
 mod stack;

@@ -1,5 +1,7 @@
 // Why a call says no: one list of numbered reasons for the whole library.
 // Checks run in rising number, so a call that could be refused for two reasons tells the lower one.
+#![tactic(auto)]
+
 ghost use Rattle.std.specs.Prelude.{◌≡◌, Some};
 ghost use Rattle.refusal.specs.Numbers.{number_of, fault_of, root_of};
 ghost use Rattle.refusal.specs.Texts.{place_text, fault_text, text_of};

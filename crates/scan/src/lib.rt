@@ -1,4 +1,6 @@
 // What one frame of a stack adds to the roots: its slots that hold pointers, the callee-save registers behind it, and their codes in a list.
+#![tactic(auto)]
+
 ghost use Rattle.std.specs.Prelude.{◌≡◌, ◌^◌, ◌<◌, ◌&&◌, [], ◌∷◌, length, if◌then◌else◌, Some, MatchOption, nat_lt};
 ghost use Rattle.frame_map.specs.Rows.{Lawful};
 ghost use Rattle.scan.specs.Masks.{registers_by, saved_mask};

@@ -1,4 +1,6 @@
 // Sorted images, good and bad, one case a line: what the check answers.
+#![tactic(auto)]
+
 use anyhow::anyhow;
 use frame_map::{FrameMap, entries};
 use sorted_map::{ROW_WORDS, SortedMap, check_sorted};

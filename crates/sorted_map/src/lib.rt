@@ -1,4 +1,6 @@
 // The sorted map: an image of rows by rising point, searched by halving.
+#![tactic(auto)]
+
 mod check;
 mod load;
 mod map;

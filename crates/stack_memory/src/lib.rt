@@ -1,4 +1,6 @@
 // Stack memories: a fixed number of words of 32 bits, 1 to 8,192, that are read and written one at a time.
+#![tactic(auto)]
+
 ghost use Rattle.std.specs.Prelude.{◌≡◌, ℕ, ◌^◌, ◌<◌, ◌≤◌, List, length, MatchResult, slice_index};
 ghost use Rattle.stack_memory.specs.Promises.{Found, NoWord, Changed, Unchanged};
 

@@ -1,4 +1,6 @@
 // The program: reads its arguments and files, and prints what the library reports.
+#![tactic(auto)]
+
 mod demo;
 
 use anyhow::anyhow;

@@ -1,4 +1,6 @@
 // Masks of bits, and words of 32 bits in images of bytes, low byte first.
+#![tactic(auto)]
+
 ghost use Rattle.std.specs.Prelude.{◌≡◌, ◌+◌, ◌*◌, ◌/◌, ◌<◌, ◌≤◌, length, IfOk, MatchBool, MatchOption};
 ghost use Rattle.words.specs.Bits.{Bit};
 ghost use Rattle.words.specs.Bytes.{word_in, words_of};
