@@ -9,8 +9,8 @@ loop-k-init c = mask_begin (moved c.args.was.now c.args.saved.now)
 
 pub loop-k-preserved : goal.loop-k-preserved
 loop-k-preserved c =
-    ap (λ m. m + c.flag-bit-mask.result) c.loop-k.invariant
-    ∙ ap (λ n. mask_of (moved c.args.was.now c.args.saved.now) c.loop-k.k + n) c.flag-bit-mask.ensures
+    ap (λ m. m + c.flag_bit-mask.result) c.loop-k.invariant
+    ∙ ap (λ n. mask_of (moved c.args.was.now c.args.saved.now) c.loop-k.k + n) c.flag_bit-mask.ensures
     ∙ mask_next (moved c.args.was.now c.args.saved.now) c.loop-k.k
 
 pub overflow-add-mask : goal.overflow-add-mask

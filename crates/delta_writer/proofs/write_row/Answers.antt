@@ -7,7 +7,7 @@ pub returns : goal.returns
 returns c =
     let n = c.new-row.result.filled in
     let whole : c.new-row.result.filled - 0 ≡ c.new-row.result.filled = omega arith in
-    wrote_part (code c.args.before.now c.args.entry.now) c.args.out.now c.copy-from-slice.new.self c.args.at _ c.new-row.result.filled
+    wrote_part (code c.args.before.now c.args.entry.now) c.args.out.now c.copy_from_slice.new.self c.args.at _ c.new-row.result.filled
     c.new-row.ensures.long (omega arith)
-    (c.copy-from-slice.ensures.after ∙ ap (λ m. take m c.new-row.result.buffer) whole ∙ c.new-row.ensures.coded)
+    (c.copy_from_slice.ensures.after ∙ ap (λ m. take m c.new-row.result.buffer) whole ∙ c.new-row.ensures.coded)
     (omega arith)

@@ -11,16 +11,16 @@ abbrev past : Entry
 past = record { point = 0; row = record { size = 0; slots = 0; saved = []; registers = 0; untouched = 0 } }
 
 pub loop-entry-init : goal.loop-entry-init
-loop-entry-init g c = c.in-ok-text.ensures.ok ∙ sym (append-nil (decimal c.len-count.result ++ codes " rows\n"))
+loop-entry-init g c = c.in_ok-text.ensures.ok ∙ sym (append-nil (decimal c.len-count.result ++ codes " rows\n"))
 
 pub loop-entry-preserved : goal.loop-entry-preserved
 loop-entry-preserved g c =
     let items : List Entry = c.deref-entry-items.result.now in
     let i : ℕ = c.loop-entry.entry-index in
     let head : List ℕ = decimal c.len-count.result ++ codes " rows\n" in
-    let line : string_bytes c.in-ok-line.line ≡ entry_line (get_or items i past) = c.in-ok-line.ensures.ok in
-    c.in-ok-push-str.ensures.bytes
-    ∙ ap (λ l. string_bytes c.loop-entry.text ++ l) (c.as-str.ensures.value ∙ line)
+    let line : string_bytes c.in_ok-line.line ≡ entry_line (get_or items i past) = c.in_ok-line.ensures.ok in
+    c.in_ok-push_str.ensures.bytes
+    ∙ ap (λ l. string_bytes c.loop-entry.text ++ l) (c.as_str.ensures.value ∙ line)
     ∙ ap (λ l. l ++ entry_line (get_or items i past)) c.loop-entry.invariant
     ∙ flat_map_more entry_line head (take i items) (get_or items i past)
     ∙ ap (λ l. head ++ flat_map entry_line l) (sym (take_more items i past c.loop-entry-test.true))
@@ -29,7 +29,7 @@ pub returns : goal.returns
 unfolding text_of_rows
 returns g c =
     let items : List Entry = c.deref-entry-items.result.now in
-    let same : items ≡ entries_below (g.M.FrameMap.rows c.args.map.now) 65536 = c.deref-entry-items.ensures.value ∙ c.in-ok-all.ensures.listed in
+    let same : items ≡ entries_below (g.M.FrameMap.rows c.args.map.now) 65536 = c.deref-entry-items.ensures.value ∙ c.in_ok-all.ensures.listed in
     let all : take c.loop-entry.entry-index items ≡ items = take_all c.loop-entry.entry-index items c.loop-entry-test.false in
     let many : c.len-count.result ≡ length items = c.len-count.ensures ∙ sym c.deref-entry-items.ensures.len in
     c.loop-entry.invariant

@@ -4,4 +4,4 @@ use Rattle.scan.proofs.MaskLaws.{steps}
 use Rattle.scan.proofs.scan_frame.Goals as goal
 
 pub returns : goal.returns
-returns c l = steps c.args.row.now c.args.held _ _ (ap (λ m. bit_or c.args.row.now.slots m) (c.saved-roots.ensures l)) refl
+returns c l = steps c.args.row.now c.args.held _ _ (ap (λ m. bit_or c.args.row.now.slots m) (c.saved_roots.ensures l)) refl

@@ -7,8 +7,8 @@ use Rattle.scan.proofs.write_codes.Goals as goal
 pub loop-i-init : goal.loop-i-init
 loop-i-init c = wrote_as (sym (codes_none c.args.base c.args.mask)) (wrote_none c.args.at c.args.out.now (omega arith))
 
-pub write-code-place-requires : goal.write-code-place-requires
-write-code-place-requires c = omega (arith, c.loop-i.invariant.end, wrote_length c.loop-i.invariant, length-codes c.args.base c.args.mask c.loop-i.i)
+pub write_code-place-requires : goal.write_code-place-requires
+write_code-place-requires c = omega (arith, c.loop-i.invariant.end, wrote_length c.loop-i.invariant, length-codes c.args.base c.args.mask c.loop-i.i)
 
 pub loop-i-preserved : goal.loop-i-preserved
-loop-i-preserved c = wrote_as (codes_more c.args.base c.args.mask c.loop-i.i) (wrote_then c.loop-i.invariant c.write-code-place.ensures)
+loop-i-preserved c = wrote_as (codes_more c.args.base c.args.mask c.loop-i.i) (wrote_then c.loop-i.invariant c.write_code-place.ensures)

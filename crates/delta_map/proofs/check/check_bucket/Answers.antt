@@ -7,15 +7,15 @@ use Rattle.delta_map.proofs.check.check_bucket.Goals as goal
 
 pub loop-reader-init : goal.loop-reader-init
 loop-reader-init c = (
-  here_first c.args.image.now c.args.place c.requires.inside c.args.rows c.first-before-before.result c.new-reader.result.at
-      c.first-before-before.ensures (c.new-reader.ensures.place ∙ c.start-at-start.ensures) c.requires.front,
-  c.new-reader.ensures.cut ∙ ap (λ n. take n c.args.image.now) (c.start-at-end.ensures ∙ ap (λ n. start_in c.args.image.now n) (add-one c.args.place)),
+  here_first c.args.image.now c.args.place c.requires.inside c.args.rows c.first_before-before.result c.new-reader.result.at
+      c.first_before-before.ensures (c.new-reader.ensures.place ∙ c.start_at-start.ensures) c.requires.front,
+  c.new-reader.ensures.cut ∙ ap (λ n. take n c.args.image.now) (c.start_at-end.ensures ∙ ap (λ n. start_in c.args.image.now n) (add-one c.args.place)),
 )
 
-pub returns-then-rows-ge-MAX-ROWS : goal.returns-then-rows-ge-MAX-ROWS
-returns-then-rows-ge-MAX-ROWS c =
+pub returns-then-rows-ge-MAX_ROWS : goal.returns-then-rows-ge-MAX_ROWS
+returns-then-rows-ge-MAX_ROWS c =
     subst (λ k. BadRow c.args.image.now c.loop-reader.rows k) (sym c.at-byte.ensures)
-    (too_many c.args.image.now c.args.place c.requires.inside c.loop-reader.reader.at c.loop-reader.rows c.loop-reader.before c.loop-reader.invariant.0 (goes_on c.args.image.now c.args.place c.requires.inside c.loop-reader.reader.at c.loop-reader.rows c.loop-reader.before c.loop-reader.invariant.0 (λ z. c.loop-reader-test.ensures (ap (λ l. drop c.loop-reader.reader.at l) c.loop-reader.invariant.1 ∙ z))) c.if-rows-ge-MAX-ROWS.true)
+    (too_many c.args.image.now c.args.place c.requires.inside c.loop-reader.reader.at c.loop-reader.rows c.loop-reader.before c.loop-reader.invariant.0 (goes_on c.args.image.now c.args.place c.requires.inside c.loop-reader.reader.at c.loop-reader.rows c.loop-reader.before c.loop-reader.invariant.0 (λ z. c.loop-reader-test.ensures (ap (λ l. drop c.loop-reader.reader.at l) c.loop-reader.invariant.1 ∙ z))) c.if-rows-ge-MAX_ROWS.true)
 
 pub returns-in-Err : goal.returns-in-Err
 returns-in-Err c =
@@ -27,9 +27,9 @@ returns-in-Err c =
 pub returns-then-bucket-place : goal.returns-then-bucket-place
 returns-then-bucket-place c =
     subst (λ k. BadRow c.args.image.now c.loop-reader.rows k) (sym c.at-byte.ensures)
-    (other_bucket c.args.image.now c.args.place c.requires.inside c.loop-reader.reader.at c.next-row.new.self.at c.loop-reader.rows c.loop-reader.before c.in-Ok.entry c.loop-reader.invariant.0 c.in-Ok.ensures.follows
+    (other_bucket c.args.image.now c.args.place c.requires.inside c.loop-reader.reader.at c.next_row.new.self.at c.loop-reader.rows c.loop-reader.before c.in-Ok.entry c.loop-reader.invariant.0 c.in-Ok.ensures.follows
     (sym (ap (λ l. drop c.loop-reader.reader.at l) c.loop-reader.invariant.1) ∙ c.in-Ok.ensures.coded
-    ∙ ap (λ l. code c.loop-reader.before c.in-Ok.entry ++ drop c.next-row.new.self.at l) (c.in-Ok.ensures.image ∙ c.loop-reader.invariant.1))
+    ∙ ap (λ l. code c.loop-reader.before c.in-Ok.entry ++ drop c.next_row.new.self.at l) (c.in-Ok.ensures.image ∙ c.loop-reader.invariant.1))
     c.in-Ok.ensures.place
     (goes_on c.args.image.now c.args.place c.requires.inside c.loop-reader.reader.at c.loop-reader.rows c.loop-reader.before c.loop-reader.invariant.0 (λ z. c.loop-reader-test.ensures (ap (λ l. drop c.loop-reader.reader.at l) c.loop-reader.invariant.1 ∙ z))) (λ z. c.if-bucket-place.true (c.bucket.ensures ∙ z)))
 
@@ -42,11 +42,11 @@ loop-reader-smaller c =
 
 pub loop-reader-preserved : goal.loop-reader-preserved
 loop-reader-preserved c = (
-  here_more c.args.image.now c.args.place c.requires.inside c.loop-reader.reader.at c.next-row.new.self.at c.loop-reader.rows c.loop-reader.before c.in-Ok.entry c.loop-reader.invariant.0 c.in-Ok.ensures.follows
+  here_more c.args.image.now c.args.place c.requires.inside c.loop-reader.reader.at c.next_row.new.self.at c.loop-reader.rows c.loop-reader.before c.in-Ok.entry c.loop-reader.invariant.0 c.in-Ok.ensures.follows
       (sym (ap (λ l. drop c.loop-reader.reader.at l) c.loop-reader.invariant.1) ∙ c.in-Ok.ensures.coded
-      ∙ ap (λ l. code c.loop-reader.before c.in-Ok.entry ++ drop c.next-row.new.self.at l) (c.in-Ok.ensures.image ∙ c.loop-reader.invariant.1))
+      ∙ ap (λ l. code c.loop-reader.before c.in-Ok.entry ++ drop c.next_row.new.self.at l) (c.in-Ok.ensures.image ∙ c.loop-reader.invariant.1))
       c.in-Ok.ensures.place
-      c.if-rows-ge-MAX-ROWS.false (sym c.bucket.ensures ∙ c.if-bucket-place.false),
+      c.if-rows-ge-MAX_ROWS.false (sym c.bucket.ensures ∙ c.if-bucket-place.false),
   c.in-Ok.ensures.image ∙ c.loop-reader.invariant.1,
 )
 

@@ -13,13 +13,13 @@ loop-k-preserved c = (
   λ j e. c.in-Some.ensures.1 ∙ ap (λ i. start_in c.args.image.now i) (let z : c.loop-k.k ≡ j = omega arith in z),
 )
 
-pub returns-in-default : goal.returns-in-default
-returns-in-default c = record {
+pub returns-in_default : goal.returns-in_default
+returns-in_default c = record {
   index = c.loop-k.k;
   bad = record {
     inside = omega arith;
     before = c.loop-k.invariant.0;
-    bad = λ g. c.in-default.ensures (starts_next c.args.image.now c.loop-k.k c.loop-k.last (omega arith) c.loop-k.invariant.1 g);
+    bad = λ g. c.in_default.ensures (starts_next c.args.image.now c.loop-k.k c.loop-k.last (omega arith) c.loop-k.invariant.1 g);
   };
   row_none = refl;
   byte_is = refl;

@@ -24,6 +24,6 @@ pub returns : goal.returns
 returns c =
     let all : c.loop-k.k ≡ 8 = omega arith in
     added_as
-    (ap (λ m. (m ∷ []) ++ moved_slots c.args.was.now c.args.saved.now 8) c.moved-registers-moved.ensures
-    ∙ resaved_some c.args.was.now c.args.saved.now (λ z. c.if-moved-eq0.false (c.moved-registers-moved.ensures ∙ z)))
+    (ap (λ m. (m ∷ []) ++ moved_slots c.args.was.now c.args.saved.now 8) c.moved_registers-moved.ensures
+    ∙ resaved_some c.args.was.now c.args.saved.now (λ z. c.if-moved-eq0.false (c.moved_registers-moved.ensures ∙ z)))
     (added_then c.push.ensures (subst (λ k. Added (moved_slots c.args.was.now c.args.saved.now k) c.push.new.self c.loop-k.self) all c.loop-k.invariant))

@@ -14,5 +14,5 @@ returns-then-header-ge-FORWARDED c s scan ps m good =
 pub returns : goal.returns
 returns c s scan ps m good =
     forwarded_new s c.args.from.now c.args.to.now c.args.starts.now c.args.free scan ps c.args.word m good (search rules) (search rules)
-    c.move-object-next.new.from c.move-object-next.new.to c.move-object-next.new.starts c.move-object-next.result _
-    (c.move-object-next.ensures s scan ps m (good (search rules)) (waits_there s c.args.from.now c.args.to.now c.args.starts.now c.args.free scan ps m c.args.word (search rules))) refl
+    c.move_object-next.new.from c.move_object-next.new.to c.move_object-next.new.starts c.move_object-next.result _
+    (c.move_object-next.ensures s scan ps m (good (search rules)) (waits_there s c.args.from.now c.args.to.now c.args.starts.now c.args.free scan ps m c.args.word (search rules))) refl

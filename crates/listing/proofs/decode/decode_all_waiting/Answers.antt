@@ -8,14 +8,14 @@ use Rattle.frames.specs.Views.{after}
 use Rattle.listing.proofs.Loops.{learned_first, none_some, same_trans, loop_step, loop_stops, loop_ends}
 use Rattle.listing.proofs.decode.decode_all_waiting.Goals as goal
 
-pub returns-in-default : goal.returns-in-default
-returns-in-default g c = record {
+pub returns-in_default : goal.returns-in_default
+returns-in_default g c = record {
   same = refl;
   tables = record { phase_same = refl; spacing_same = refl; depth_same = refl; edges_same = refl; registers_same = refl; handlers_same = refl; level_same = refl; markers_same = refl };
   decodes = λ s h low.
       let under = h.placed.low in
       let there = frame_number (frames s) c.args.from (omega arith) in
-      absurd (c.in-default.not-Some _ (c.held-at.ensures _ _ s there.0 there.1 there.2 h there.3 there.4 low));
+      absurd (c.in_default.not-Some _ (c.held_at.ensures _ _ s there.0 there.1 there.2 h there.3 there.4 low));
 }
 
 pub loop-frame-init : goal.loop-frame-init
@@ -33,16 +33,16 @@ returns-in-None g c = record {
       let under = h.placed.low in
       let deep = h.lies.deep in
       let now = c.loop-frame.invariant.2 s (kept_same _ _ _ _ s (kept_of _ _ _ s h) (record { phase_same = refl; spacing_same = refl; depth_same = refl; edges_same = refl; registers_same = refl; handlers_same = refl; level_same = refl; markers_same = refl })) (omega arith) (learned_first _ _ _ _ s c.args.from c.in-Some.held h low c.truncate.ensures (λ xs gs up parts n. c.in-Some.ensures _ _ s xs gs up h parts n low)) in
-      absurd (loop_stops _ _ _ _ _ _ _ _ _ s c.loop-frame.frame c.loop-frame.held c.loop-frame.invariant.0 c.loop-frame.invariant.1 (kept_same _ _ _ _ s (kept_of _ _ _ s h) (record { phase_same = refl; spacing_same = refl; depth_same = refl; edges_same = refl; registers_same = refl; handlers_same = refl; level_same = refl; markers_same = refl })) now.0 (omega (arith, c.saturating-sub-frame-end.ensures)) c.in-None.ensures);
+      absurd (loop_stops _ _ _ _ _ _ _ _ _ s c.loop-frame.frame c.loop-frame.held c.loop-frame.invariant.0 c.loop-frame.invariant.1 (kept_same _ _ _ _ s (kept_of _ _ _ s h) (record { phase_same = refl; spacing_same = refl; depth_same = refl; edges_same = refl; registers_same = refl; handlers_same = refl; level_same = refl; markers_same = refl })) now.0 (omega (arith, c.saturating_sub-frame-end.ensures)) c.in-None.ensures);
 }
 
 pub loop-frame-preserved : goal.loop-frame-preserved
 loop-frame-preserved g c = (
-  c.in-Some-decode-waiting.ensures.same ∙ c.loop-frame.invariant.0,
-  same_trans _ _ _ c.loop-frame.invariant.1 c.in-Some-decode-waiting.ensures.tables,
+  c.in-Some-decode_waiting.ensures.same ∙ c.loop-frame.invariant.0,
+  same_trans _ _ _ c.loop-frame.invariant.1 c.in-Some-decode_waiting.ensures.tables,
   λ s kept under first.
-      loop_step _ _ _ _ _ _ _ _ _ _ s c.args.from c.loop-frame.frame c.loop-frame.held c.in-Some-decode-waiting.behind c.loop-frame.invariant.0 c.loop-frame.invariant.1 kept (c.loop-frame.invariant.2 s kept under first) c.loop-frame.auto.frame
-      (omega (arith, c.saturating-sub-frame-end.ensures)) c.in-Some-decode-waiting.ensures,
+      loop_step _ _ _ _ _ _ _ _ _ _ s c.args.from c.loop-frame.frame c.loop-frame.held c.in-Some-decode_waiting.behind c.loop-frame.invariant.0 c.loop-frame.invariant.1 kept (c.loop-frame.invariant.2 s kept under first) c.loop-frame.auto.frame
+      (omega (arith, c.saturating_sub-frame-end.ensures)) c.in-Some-decode_waiting.ensures,
 )
 
 pub returns : goal.returns
@@ -53,5 +53,5 @@ returns g c = record {
       let under = h.placed.low in
       let deep = h.lies.deep in
       let now = c.loop-frame.invariant.2 s (kept_same _ _ _ _ s (kept_of _ _ _ s h) (record { phase_same = refl; spacing_same = refl; depth_same = refl; edges_same = refl; registers_same = refl; handlers_same = refl; level_same = refl; markers_same = refl })) (omega arith) (learned_first _ _ _ _ s c.args.from c.in-Some.held h low c.truncate.ensures (λ xs gs up parts n. c.in-Some.ensures _ _ s xs gs up h parts n low)) in
-      loop_ends _ _ _ _ _ _ s c.args.from c.loop-frame.frame c.loop-frame.held h low (omega (arith, c.saturating-sub-frame-end.ensures, c.loop-frame.auto.frame-end (omega (arith, c.saturating-sub-frame-end.ensures)))) now;
+      loop_ends _ _ _ _ _ _ s c.args.from c.loop-frame.frame c.loop-frame.held h low (omega (arith, c.saturating_sub-frame-end.ensures, c.loop-frame.auto.frame-end (omega (arith, c.saturating_sub-frame-end.ensures)))) now;
 }

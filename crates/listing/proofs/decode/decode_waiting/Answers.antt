@@ -11,7 +11,7 @@ returns-in-None g c = record {
   tables = record { phase_same = refl; spacing_same = refl; depth_same = refl; edges_same = refl; registers_same = refl; handlers_same = refl; level_same = refl; markers_same = refl };
   decodes = λ s xs fs up f k parts n m room.
       let deep = second_deep _ _ s xs fs up f k.lies parts in
-      let at : suc (length fs) ≡ c.saturating-add.result = omega (arith, c.saturating-add.ensures, c.args.state.now.deep) in
+      let at : suc (length fs) ≡ c.saturating_add.result = omega (arith, c.saturating_add.ensures, c.args.state.now.deep) in
       let back = c.in-None.ensures _ s xs (f ∷ fs) up k parts at in
       let z : ◌≡◌ {A = ℕ} 0 1 = cc in
       absurd (omega arith);
@@ -23,7 +23,7 @@ returns-in-None-lookup g c = record {
   tables = record { phase_same = refl; spacing_same = refl; depth_same = refl; edges_same = refl; registers_same = refl; handlers_same = refl; level_same = refl; markers_same = refl };
   decodes = λ s xs fs up f k parts n m room.
       let deep = second_deep _ _ s xs fs up f k.lies parts in
-      let at : suc (length fs) ≡ c.saturating-add.result = omega (arith, c.saturating-add.ensures, c.args.state.now.deep) in
+      let at : suc (length fs) ≡ c.saturating_add.result = omega (arith, c.saturating_add.ensures, c.args.state.now.deep) in
       let back = c.in-Some.ensures _ s xs (f ∷ fs) up k parts at in
       let point : c.in-Some.point ≡ up.back = cc in
       absurd (described_some _ _ (waiting_row _ xs fs up f _ parts k.waiting) (c.in-None-lookup.ensures.found ∙ ap (g.M.FrameMap.rows c.args.map.now) point));
@@ -35,11 +35,11 @@ returns-in-Some-lookup g c = record {
   tables = record { phase_same = refl; spacing_same = refl; depth_same = refl; edges_same = refl; registers_same = refl; handlers_same = refl; level_same = refl; markers_same = refl };
   decodes = λ s xs fs up f k parts n m room.
       let deep = second_deep _ _ s xs fs up f k.lies parts in
-      let at : suc (length fs) ≡ c.saturating-add.result = omega (arith, c.saturating-add.ensures, c.args.state.now.deep) in
+      let at : suc (length fs) ≡ c.saturating_add.result = omega (arith, c.saturating_add.ensures, c.args.state.now.deep) in
       let back = c.in-Some.ensures _ s xs (f ∷ fs) up k parts at in
       let point : c.in-Some.point ≡ up.back = cc in
       let found : Some c.in-Some-lookup.row ≡ g.M.FrameMap.rows c.args.map.now up.back = c.in-Some-lookup.ensures.found ∙ ap (g.M.FrameMap.rows c.args.map.now) point in
-      let steps = c.scan-frame-scanned.ensures (g.met.M.FrameMap.lawful c.args.map.now up.back c.in-Some-lookup.row (sym found)) in (
+      let steps = c.scan_frame-scanned.ensures (g.met.M.FrameMap.lawful c.args.map.now up.back c.in-Some-lookup.row (sym found)) in (
         ap Some (decoded_held _ up.back c.in-Some-lookup.row f fs c.args.held _ found m steps.held_mask),
         pushed 256 (records c.args.state.now.records) _ _ c.push.result room c.push.ensures
             ∙ ap (λ r. records c.args.state.now.records ++ r ∷ []) (decoded_record _ up.back c.in-Some-lookup.row f fs c.args.frame c.args.held _ _ found (sym n) m (steps.roots_mask f.slots) steps.held_mask),

@@ -2,22 +2,22 @@
 use Rattle.refusal.proofs.RefusalDisplay.fmt.Goals as goal
 
 pub returns-in-OutOfRange-clause-writes : goal.returns-in-OutOfRange-clause-writes
-returns-in-OutOfRange-clause-writes g c = rw c.in-OutOfRange.is c.write-str-in-OutOfRange.ensures.writes
+returns-in-OutOfRange-clause-writes g c = rw c.in-OutOfRange.is c.write_str-in-OutOfRange.ensures.writes
 
 pub returns-in-BadBuffer-clause-writes : goal.returns-in-BadBuffer-clause-writes
-returns-in-BadBuffer-clause-writes g c = rw c.in-BadBuffer.is c.write-str-in-BadBuffer.ensures.writes
+returns-in-BadBuffer-clause-writes g c = rw c.in-BadBuffer.is c.write_str-in-BadBuffer.ensures.writes
 
 pub returns-in-NoRoom-clause-writes : goal.returns-in-NoRoom-clause-writes
-returns-in-NoRoom-clause-writes g c = rw c.in-NoRoom.is c.write-str-in-NoRoom.ensures.writes
+returns-in-NoRoom-clause-writes g c = rw c.in-NoRoom.is c.write_str-in-NoRoom.ensures.writes
 
 pub returns-in-OtherSize-clause-writes : goal.returns-in-OtherSize-clause-writes
-returns-in-OtherSize-clause-writes g c = rw c.in-OtherSize.is c.write-str-in-OtherSize.ensures.writes
+returns-in-OtherSize-clause-writes g c = rw c.in-OtherSize.is c.write_str-in-OtherSize.ensures.writes
 
 pub returns-in-NothingThere-clause-writes : goal.returns-in-NothingThere-clause-writes
-returns-in-NothingThere-clause-writes g c = rw c.in-NothingThere.is c.write-str-in-NothingThere.ensures.writes
+returns-in-NothingThere-clause-writes g c = rw c.in-NothingThere.is c.write_str-in-NothingThere.ensures.writes
 
 pub returns-in-HandlerStands-clause-writes : goal.returns-in-HandlerStands-clause-writes
-returns-in-HandlerStands-clause-writes g c = rw c.in-HandlerStands.is c.write-str-in-HandlerStands.ensures.writes
+returns-in-HandlerStands-clause-writes g c = rw c.in-HandlerStands.is c.write_str-in-HandlerStands.ensures.writes
 
 pub returns-in-HeapFull-clause-writes : goal.returns-in-HeapFull-clause-writes
-returns-in-HeapFull-clause-writes g c = rw c.in-HeapFull.is c.write-str-in-HeapFull.ensures.writes
+returns-in-HeapFull-clause-writes g c = rw c.in-HeapFull.is c.write_str-in-HeapFull.ensures.writes

@@ -10,8 +10,8 @@ unfolding point_before
 loop-i-init c = (good_none c.args.image.now, refl, omega arith)
 
 -- a table has no 1,025th row
-pub returns-then-i-ge-MAX-ROWS : goal.returns-then-i-ge-MAX-ROWS
-returns-then-i-ge-MAX-ROWS c =
+pub returns-then-i-ge-MAX_ROWS : goal.returns-then-i-ge-MAX_ROWS
+returns-then-i-ge-MAX_ROWS c =
     told c.args.image.now c.fault.result c.loop-i.i c.fault.ensures c.loop-i.invariant.0 (omega arith)
     (λ g. let few : length g.entries ≤ 1024 = g.table.few in omega (arith, g.many))
 
@@ -24,12 +24,12 @@ returns-then-not-follows c =
 pub loop-i-preserved : goal.loop-i-preserved
 unfolding point_before
 loop-i-preserved c =
-    let fits : (entry_in c.args.image.now c.loop-i.i).point < 2 ^ 16 = point_fits c.args.image.now c.loop-i.i (c.type-inv.image (5 * c.loop-i.i)).fits in (
+    let fits : (entry_in c.args.image.now c.loop-i.i).point < 2 ^ 16 = point_fits c.args.image.now c.loop-i.i (c.type_inv.image (5 * c.loop-i.i)).fits in (
       good_more c.args.image.now c.loop-i.i c.loop-i.invariant.0
           (subst (λ p. Follows c.args.image.now c.loop-i.i p) c.loop-i.invariant.1 c.if-not-follows.ensures)
-          fits c.if-i-ge-MAX-ROWS.false (omega arith),
-      ap (λ e. e.point) c.entry-at-last.ensures ∙ ap (λ n. point_before c.args.image.now n) (sym (add-one c.loop-i.i)),
-      omega (arith, c.if-i-ge-MAX-ROWS.false),
+          fits c.if-i-ge-MAX_ROWS.false (omega arith),
+      ap (λ e. e.point) c.entry_at-last.ensures ∙ ap (λ n. point_before c.args.image.now n) (sym (add-one c.loop-i.i)),
+      omega (arith, c.if-i-ge-MAX_ROWS.false),
     )
 
 -- a cut row is too short for any

@@ -5,20 +5,20 @@ use Rattle.sorted_map.specs.Meaning.{MadeFrom}
 use Rattle.sorted_map.proofs.FileLaws.{bad_words, stray_bytes}
 use Rattle.sorted_map.proofs.load.load_sorted.Goals as goal
 
-pub returns-in-err-map : goal.returns-in-err-map
-returns-in-err-map c =
-    let p = err_from_is_err_and c.from-residual-in-err-map.result c.from-residual-in-err-map.ensures.1 in
-    rw (p.1, p.2) (bad_words c.args.bytes.now c.in-err-map.field-0.0
-    (subst (λ ws. RefusedImage ws c.in-err-map.field-0.0) c.in-ok-words.ensures c.in-err-map.ensures))
+pub returns-in_err-map : goal.returns-in_err-map
+returns-in_err-map c =
+    let p = err_from_is_err_and c.from_residual-in_err-map.result c.from_residual-in_err-map.ensures.1 in
+    rw (p.1, p.2) (bad_words c.args.bytes.now c.in_err-map.field-0.0
+    (subst (λ ws. RefusedImage ws c.in_err-map.field-0.0) c.in_ok-words.ensures c.in_err-map.ensures))
 
 pub returns-then-bytes-ne0 : goal.returns-then-bytes-ne0
 returns-then-bytes-ne0 c =
-    let made = c.in-ok-map.ensures in
-    stray_bytes c.args.bytes.now made.entries c.in-ok-map.map.rows c.fault.result
-    (subst (λ ws. Means ws made.entries) c.in-ok-words.ensures made.means) made.many c.fault.ensures c.if-bytes-ne0.true
+    let made = c.in_ok-map.ensures in
+    stray_bytes c.args.bytes.now made.entries c.in_ok-map.map.rows c.fault.result
+    (subst (λ ws. Means ws made.entries) c.in_ok-words.ensures made.means) made.many c.fault.ensures c.if-bytes-ne0.true
 
 pub returns : goal.returns
 returns c = record {
   whole = c.if-bytes-ne0.false;
-  made = subst (λ ws. MadeFrom ws c.in-ok-map.map) c.in-ok-words.ensures c.in-ok-map.ensures;
+  made = subst (λ ws. MadeFrom ws c.in_ok-map.map) c.in_ok-words.ensures c.in_ok-map.ensures;
 }

@@ -7,9 +7,9 @@ use Rattle.sorted_map.proofs.search.find.Goals as goal
 pub returns-then-here-point : goal.returns-then-here-point
 returns-then-here-point c =
     let middle : ℕ = (c.loop-low.low + c.loop-low.high) / 2 in
-    ap (λ e. Some e.row) c.entry-at-entry.ensures
+    ap (λ e. Some e.row) c.entry_at-entry.ensures
     ∙ sym (found_here c.args.image.now c.args.rows c.requires.table c.args.point middle (omega arith)
-    (ap (λ e. e.point) (sym c.entry-at-entry.ensures) ∙ sym c.from-here.ensures ∙ c.if-here-point.true))
+    (ap (λ e. e.point) (sym c.entry_at-entry.ensures) ∙ sym c.from-here.ensures ∙ c.if-here-point.true))
 
 pub loop-low-preserved-then-here-point-2 : goal.loop-low-preserved-then-here-point-2
 loop-low-preserved-then-here-point-2 c =
@@ -17,7 +17,7 @@ loop-low-preserved-then-here-point-2 c =
       omega arith,
       omega arith,
       below_too c.args.image.now c.args.rows c.requires.table c.args.point middle (omega arith)
-          (omega (arith, ap (λ e. e.point) c.entry-at-entry.ensures)),
+          (omega (arith, ap (λ e. e.point) c.entry_at-entry.ensures)),
       c.loop-low.invariant.3,
     )
 
@@ -28,7 +28,7 @@ loop-low-preserved c =
       omega arith,
       c.loop-low.invariant.2,
       above_too c.args.image.now c.args.rows c.requires.table c.args.point middle
-          (omega (arith, ap (λ e. e.point) c.entry-at-entry.ensures)),
+          (omega (arith, ap (λ e. e.point) c.entry_at-entry.ensures)),
     )
 
 pub returns : goal.returns

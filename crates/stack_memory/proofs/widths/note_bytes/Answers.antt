@@ -2,4 +2,4 @@
 use Rattle.stack_memory.proofs.widths.note_bytes.Goals as goal
 
 pub returns : goal.returns
-returns c i = (c.type-inv.bytes i).fits
+returns c i = (c.type_inv.bytes i).fits

@@ -2,4 +2,4 @@
 use Rattle.stack_memory.proofs.widths.note_words.Goals as goal
 
 pub returns : goal.returns
-returns c i = (c.type-inv.words i).fits
+returns c i = (c.type_inv.words i).fits

@@ -7,22 +7,22 @@ use Rattle.delta_code.proofs.reader.Reader.+number.Goals as goal
 pub returns-then-bytes-eq0 : goal.returns-then-bytes-eq0
 returns-then-bytes-eq0 t c = record { same = refl; far = refl; ran = number_none c.args.bytes _ c.if-bytes-eq0.true }
 
-pub returns-in-err-low : goal.returns-in-err-low
-returns-in-err-low t c =
-    rw c.from-residual.ensures (took_as (λ bs. number_more c.args.bytes bs (omega arith)) (took_none (on_number c.args.bytes) c.in-err-low.ensures))
+pub returns-in_err-low : goal.returns-in_err-low
+returns-in_err-low t c =
+    rw c.from_residual.ensures (took_as (λ bs. number_more c.args.bytes bs (omega arith)) (took_none (on_number c.args.bytes) c.in_err-low.ensures))
 
-pub returns-in-err-high : goal.returns-in-err-high
-returns-in-err-high t c =
-    rw c.from-residual-in-err-high.ensures
+pub returns-in_err-high : goal.returns-in_err-high
+returns-in_err-high t c =
+    rw c.from_residual-in_err-high.ensures
     (took_as (λ bs. number_more c.args.bytes bs (omega arith))
-    (took_then (on_number c.args.bytes) c.in-ok-low.ensures
-    (took_none (λ v q. Some (c.in-ok-low.low + 256 * v, q)) c.in-err-high.ensures)))
+    (took_then (on_number c.args.bytes) c.in_ok-low.ensures
+    (took_none (λ v q. Some (c.in_ok-low.low + 256 * v, q)) c.in_err-high.ensures)))
 
-fits : (t : ℕ) (c : goal.After-from t) → c.in-ok-low.low + 256 * c.in-ok-high.high < 2 ^ 32
+fits : (t : ℕ) (c : goal.After-from t) → c.in_ok-low.low + 256 * c.in_ok-high.high < 2 ^ 32
 fits t c =
-    let low : c.in-ok-low.low < 256 = search rules in
-    number_fits c.args.bytes c.in-ok-low.low c.in-ok-high.high (omega arith) c.requires low
-    (number_small (c.args.bytes - 1) c.in-ok-high.high c.byte.new.self c.number.new.self c.in-ok-high.ensures)
+    let low : c.in_ok-low.low < 256 = search rules in
+    number_fits c.args.bytes c.in_ok-low.low c.in_ok-high.high (omega arith) c.requires low
+    (number_small (c.args.bytes - 1) c.in_ok-high.high c.byte.new.self c.number.new.self c.in_ok-high.ensures)
 
 pub overflow-mul-result : goal.overflow-mul-result
 overflow-mul-result t c = omega (arith, fits t c)
@@ -34,6 +34,6 @@ pub returns : goal.returns
 returns t c =
     rw c.from.ensures
     (took_as (λ bs. number_more c.args.bytes bs (omega arith))
-    (took_then (on_number c.args.bytes) c.in-ok-low.ensures
-    (took_then (λ v q. Some (c.in-ok-low.low + 256 * v, q)) c.in-ok-high.ensures
+    (took_then (on_number c.args.bytes) c.in_ok-low.ensures
+    (took_then (λ v q. Some (c.in_ok-low.low + 256 * v, q)) c.in_ok-high.ensures
     (record { same = refl; far = refl; ran = refl }))))

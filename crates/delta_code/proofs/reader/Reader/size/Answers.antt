@@ -7,23 +7,23 @@ use Rattle.delta_code.proofs.reader.Reader.size.Goals as goal
 pub returns-then-not-present : goal.returns-then-not-present
 returns-then-not-present c = took_here (size_off c.args.present c.args.was _ c.if-not-present.true)
 
-pub returns-in-err-difference : goal.returns-in-err-difference
-returns-in-err-difference c =
-    rw c.from-residual.ensures
-    (took_as (λ bs. size_on c.args.present c.args.was bs c.if-not-present.false) (took_none (on_size c.args.was) c.in-err-difference.ensures))
+pub returns-in_err-difference : goal.returns-in_err-difference
+returns-in_err-difference c =
+    rw c.from_residual.ensures
+    (took_as (λ bs. size_on c.args.present c.args.was bs c.if-not-present.false) (took_none (on_size c.args.was) c.in_err-difference.ensures))
 
 pub returns-then-difference-eq0 : goal.returns-then-difference-eq0
 returns-then-difference-eq0 c =
     took_as (λ bs. size_on c.args.present c.args.was bs c.if-not-present.false)
-    (took_then (on_size c.args.was) c.in-ok-difference.ensures (took_here (size_still c.args.was c.in-ok-difference.difference _ c.if-difference-eq0.true)))
+    (took_then (on_size c.args.was) c.in_ok-difference.ensures (took_here (size_still c.args.was c.in_ok-difference.difference _ c.if-difference-eq0.true)))
 
 pub returns : goal.returns
 returns c =
-    let low : c.in-ok-difference.difference < 256 = search rules in
-    let signed : to_z w8 (of_z w8 c.cast-signed.result) ≡ to_z w8 c.in-ok-difference.difference =
-    ap (λ z. to_z w8 (of_z w8 z)) c.cast-signed.ensures ∙ ap (to_z w8) (of_z-to_z w8 c.in-ok-difference.difference low) in
+    let low : c.in_ok-difference.difference < 256 = search rules in
+    let signed : to_z w8 (of_z w8 c.cast_signed.result) ≡ to_z w8 c.in_ok-difference.difference =
+    ap (λ z. to_z w8 (of_z w8 z)) c.cast_signed.ensures ∙ ap (to_z w8) (of_z-to_z w8 c.in_ok-difference.difference low) in
     took_as (λ bs. size_on c.args.present c.args.was bs c.if-not-present.false)
-    (took_then (on_size c.args.was) c.in-ok-difference.ensures
-    (took_here (size_moves c.args.was c.in-ok-difference.difference c.checked-add-signed.result _ c.if-difference-eq0.false
-    (shifted_is c.args.was c.in-ok-difference.difference c.checked-add-signed.result c.ranges.was.fits low
-    (subst (λ z. SomeIff c.checked-add-signed.result ((pos 0 ≤ℤ (pos c.args.was +ℤ z)) × ((pos c.args.was +ℤ z) <ℤ pos (2 ^ 8))) (nat_abs (pos c.args.was +ℤ z))) signed c.checked-add-signed.ensures)))))
+    (took_then (on_size c.args.was) c.in_ok-difference.ensures
+    (took_here (size_moves c.args.was c.in_ok-difference.difference c.checked_add_signed.result _ c.if-difference-eq0.false
+    (shifted_is c.args.was c.in_ok-difference.difference c.checked_add_signed.result c.ranges.was.fits low
+    (subst (λ z. SomeIff c.checked_add_signed.result ((pos 0 ≤ℤ (pos c.args.was +ℤ z)) × ((pos c.args.was +ℤ z) <ℤ pos (2 ^ 8))) (nat_abs (pos c.args.was +ℤ z))) signed c.checked_add_signed.ensures)))))

@@ -5,10 +5,10 @@ use Rattle.delta_map.proofs.map.DeltaMap.new.Goals as goal
 
 pub invariant-of-result : goal.invariant-of-result
 invariant-of-result c =
-    let h = subst (λ ws. HasDeltaRows ws c.in-ok--rows.-rows) c.as-slice.ensures.value c.in-ok--rows.ensures in
+    let h = subst (λ ws. HasDeltaRows ws c.in_ok--rows.-rows) c.as_slice.ensures.value c.in_ok--rows.ensures in
     (lit< tt, (∣ (h.entries, h.means) ∣₁, tt))
 
 pub returns : goal.returns
 returns c =
-    let h = subst (λ ws. HasDeltaRows ws c.in-ok--rows.-rows) c.as-slice.ensures.value c.in-ok--rows.ensures in
+    let h = subst (λ ws. HasDeltaRows ws c.in_ok--rows.-rows) c.as_slice.ensures.value c.in_ok--rows.ensures in
     record { entries = h.entries; means = h.means; rows = rows_are _ h.entries h.means; fresh = refl }

@@ -5,11 +5,11 @@ use Rattle.delta_map.proofs.MapLaws.{entries_mean, rows_are, rows_same, rows_pas
 use Rattle.delta_map.proofs.methods.DeltaMapFrameMap.lookup.Goals as goal
 
 pub find-requires : goal.find-requires
-find-requires c = (entries_of c.args.self.now, subst (λ w. DeltaMeans w (entries_of c.args.self.now)) (sym c.as-slice.ensures.value) (entries_mean c.args.self.now))
+find-requires c = (entries_of c.args.self.now, subst (λ w. DeltaMeans w (entries_of c.args.self.now)) (sym c.as_slice.ensures.value) (entries_mean c.args.self.now))
 
-pub returns-in-default : goal.returns-in-default
-returns-in-default c = record {
-  found = sym (rows_past c.args.self.now c.args.point (omega (arith, c.in-default.ensures)));
+pub returns-in_default : goal.returns-in_default
+returns-in_default c = record {
+  found = sym (rows_past c.args.self.now c.args.point (omega (arith, c.in_default.ensures)));
   same = rows_same c.args.self.now _ refl;
   counted = refl;
 }
@@ -17,7 +17,7 @@ returns-in-default c = record {
 pub returns : goal.returns
 returns c = record {
   found =
-      c.find.ensures (entries_of c.args.self.now) (subst (λ w. DeltaMeans w (entries_of c.args.self.now)) (sym c.as-slice.ensures.value) (entries_mean c.args.self.now))
+      c.find.ensures (entries_of c.args.self.now) (subst (λ w. DeltaMeans w (entries_of c.args.self.now)) (sym c.as_slice.ensures.value) (entries_mean c.args.self.now))
       ∙ ap (λ p. rows_of c.args.self.now p) c.in-Ok.ensures.1;
   same = rows_same c.args.self.now _ refl;
   counted = refl;

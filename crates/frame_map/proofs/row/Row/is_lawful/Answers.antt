@@ -8,7 +8,7 @@ returns c =
     let size : Sized c.args.self.now = search rules in
     let slots : Slotted c.args.self.now = search rules in
     let saves : Saved c.args.self.now = search rules in
-    when_same c.has-fair-registers.result (Masked c.args.self.now) (Lawful c.args.self.now)
+    when_same c.has_fair_registers.result (Masked c.args.self.now) (Lawful c.args.self.now)
     (λ d. record { sized = size; slotted = slots; saves = saves; masked = d })
     (λ l. l.masked)
-    c.has-fair-registers.ensures
+    c.has_fair_registers.ensures

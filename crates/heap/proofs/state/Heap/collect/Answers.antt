@@ -23,25 +23,25 @@ ready h roots good from to starts fe te se =
 held : (s : Space) (roots roots' ws vs : List ℕ) (ms ns : List Bool) (n : ℕ) → Gathered s roots roots' ws ms n → vs ≡ ws → ns ≡ ms → Gathered s roots roots' vs ns n
 held s roots roots' ws vs ms ns n g we me = subst (λ x. Gathered s roots roots' x ns n) (sym we) (subst (λ x. Gathered s roots roots' ws x n) (sym me) g)
 
-pub copy-live-self-requires : goal.copy-live-self-requires
-copy-live-self-requires c =
-    (content c.args.self.now, ready c.args.self.now c.args.roots.now c.in-default.ensures _ _ _ c.deref-mut.ensures.value c.deref-mut-2.ensures.value c.deref-mut-3.ensures.value)
+pub copy_live-self-requires : goal.copy_live-self-requires
+copy_live-self-requires c =
+    (content c.args.self.now, ready c.args.self.now c.args.roots.now c.in_default.ensures _ _ _ c.deref_mut.ensures.value c.deref_mut-2.ensures.value c.deref_mut-3.ensures.value)
 
 pub invariant-of-self : goal.invariant-of-self
 invariant-of-self c =
     let h : Heap = c.args.self.now in
-    let g : Gathered (content h) c.args.roots.now c.copy-live-self.new.roots (vec_items c.swap.new.x) (vec_items (with_items h.starts c.copy-live-self.new.starts)) c.copy-live-self.result =
-    held (content h) c.args.roots.now c.copy-live-self.new.roots _ _ _ _ c.copy-live-self.result
-    (c.copy-live-self.ensures (content h) (ready h c.args.roots.now c.in-default.ensures _ _ _ c.deref-mut.ensures.value c.deref-mut-2.ensures.value c.deref-mut-3.ensures.value))
-    (ap vec_items c.swap.ensures.x-after ∙ with_items_is h.idle c.copy-live-self.new.to (search rules)) (with_items_is h.starts c.copy-live-self.new.starts (search rules)) in
+    let g : Gathered (content h) c.args.roots.now c.copy_live-self.new.roots (vec_items c.swap.new.x) (vec_items (with_items h.starts c.copy_live-self.new.starts)) c.copy_live-self.result =
+    held (content h) c.args.roots.now c.copy_live-self.new.roots _ _ _ _ c.copy_live-self.result
+    (c.copy_live-self.ensures (content h) (ready h c.args.roots.now c.in_default.ensures _ _ _ c.deref_mut.ensures.value c.deref_mut-2.ensures.value c.deref_mut-3.ensures.value))
+    (ap vec_items c.swap.ensures.x-after ∙ with_items_is h.idle c.copy_live-self.new.to (search rules)) (with_items_is h.starts c.copy_live-self.new.starts (search rules)) in
     let s = g.sound in
     (search rules, (search rules, (search rules, (search rules, (omega (arith, g.fits, h.fits, ap vec_len c.swap.ensures.x-after ∙ h.halves), (s.tiled.inside, (s.tiled.apart, (s.tiled.total, (s.tiled.counts, (s.near, (s.closed, tt)))))))))))
 
 pub returns : goal.returns
 returns c =
     let h : Heap = c.args.self.now in
-    let g : Gathered (content h) c.args.roots.now c.copy-live-self.new.roots (vec_items c.swap.new.x) (vec_items (with_items h.starts c.copy-live-self.new.starts)) c.copy-live-self.result =
-    held (content h) c.args.roots.now c.copy-live-self.new.roots _ _ _ _ c.copy-live-self.result
-    (c.copy-live-self.ensures (content h) (ready h c.args.roots.now c.in-default.ensures _ _ _ c.deref-mut.ensures.value c.deref-mut-2.ensures.value c.deref-mut-3.ensures.value))
-    (ap vec_items c.swap.ensures.x-after ∙ with_items_is h.idle c.copy-live-self.new.to (search rules)) (with_items_is h.starts c.copy-live-self.new.starts (search rules)) in
-    (c.in-default.ensures, ap vec_len c.swap.ensures.x-after ∙ h.halves, (g.list, g.collected))
+    let g : Gathered (content h) c.args.roots.now c.copy_live-self.new.roots (vec_items c.swap.new.x) (vec_items (with_items h.starts c.copy_live-self.new.starts)) c.copy_live-self.result =
+    held (content h) c.args.roots.now c.copy_live-self.new.roots _ _ _ _ c.copy_live-self.result
+    (c.copy_live-self.ensures (content h) (ready h c.args.roots.now c.in_default.ensures _ _ _ c.deref_mut.ensures.value c.deref_mut-2.ensures.value c.deref_mut-3.ensures.value))
+    (ap vec_items c.swap.ensures.x-after ∙ with_items_is h.idle c.copy_live-self.new.to (search rules)) (with_items_is h.starts c.copy_live-self.new.starts (search rules)) in
+    (c.in_default.ensures, ap vec_len c.swap.ensures.x-after ∙ h.halves, (g.list, g.collected))

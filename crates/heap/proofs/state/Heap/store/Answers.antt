@@ -14,11 +14,11 @@ invariant-of-self c =
     let p : Place (content h) c.args.place = search rules in
     let head : c.index-header.result.now ≡ header (content h) c.args.place =
     get_or_read_under (vec_items h.words) (c.args.place - 1) (vec_len h.words) c.index-header.result.now 0 c.index-header.ensures (omega (arith, p.0, p.1.0)) h.words.ok.0 in
-    let f : c.args.field < refs (content h) c.args.place + plain (content h) c.args.place = omega (arith, ap size_in head, c.size-of.ensures) in
+    let f : c.args.field < refs (content h) c.args.place + plain (content h) c.args.place = omega (arith, ap size_in head, c.size_of.ensures) in
     let good : c.args.field < refs (content h) c.args.place → Pointer (content h) c.args.word =
-    λ l. elim c.else-field-refs-of.branch [
-      | goal.else-field-refs-of-via-then-field-refs-of+else-not-is-pointer w ↦ search rules
-      | goal.else-field-refs-of-via-else-field-refs-of w ↦ absurd (omega (arith, c.refs-of.ensures, ap refs_in head, w.if-field-refs-of.false))
+    λ l. elim c.else-field-refs_of.branch [
+      | goal.else-field-refs_of-via-then-field-refs_of+else-not-is_pointer w ↦ search rules
+      | goal.else-field-refs_of-via-else-field-refs_of w ↦ absurd (omega (arith, c.refs_of.ensures, ap refs_in head, w.if-field-refs_of.false))
     ] in
     let s : Sound (space (set (vec_items h.words) at c.args.word) (vec_items h.starts) h.used) =
     sound_stored (content h) (sound_of h) (c.args.place - 1) c.args.field c.args.word p.1 f at (omega (arith, p.0)) (omega (arith, h.words.ok.0, h.inside (c.args.place - 1) p.1, p.0, f)) good in

@@ -8,8 +8,8 @@ use Rattle.frames.proofs.ViewLaws.{runs, not_running, top_is, base_is, stays}
 use Rattle.machine.specs.Promises.{view_of}
 use Rattle.machine.proofs.machine.Machine.slot.Goals as goal
 
-pub returns-then-not-is-running : goal.returns-then-not-is-running
-returns-then-not-is-running g c = λ s h. stays _ s _ WrongPhase h refl (inl (refl, not_running _ _ _ s h c.if-not-is-running.ensures))
+pub returns-then-not-is_running : goal.returns-then-not-is_running
+returns-then-not-is_running g c = λ s h. stays _ s _ WrongPhase h refl (inl (refl, not_running _ _ _ s h c.if-not-is_running.ensures))
 
 pub returns-then-slot-lt1 : goal.returns-then-slot-lt1
 returns-then-slot-lt1 g c = λ s h.
@@ -18,7 +18,7 @@ returns-then-slot-lt1 g c = λ s h.
     let sizes = top-cons s.current s.older in
     stays _ s _ OutOfRange h refl
     (inr (
-      runs _ _ _ s h c.if-not-is-running.ensures,
+      runs _ _ _ s h c.if-not-is_running.ensures,
       inl (
         refl,
         λ fair.
@@ -33,8 +33,8 @@ returns-in-Ok g c = λ s h.
     let sizes = top-cons s.current s.older in
     let place : c.from.result + c.args.slot ≡ top s.older + c.args.slot = omega (arith, c.from.ensures, c.base.ensures) in
     let inside : c.args.slot < size s.current = omega (arith, c.from.ensures, c.base.ensures, c.from-end.ensures, c.top.ensures, c.if-place-end.false) in (
-      slot_read _ s c.args.slot h c.if-not-is-running.ensures (omega arith) inside,
-      c.in-Ok.ensures.word ∙ ap (λ k. get_or (g.S.StackMemory.words c.args.self.now.memory) k 0) place ∙ slot_word (view_of g.M.FrameMap.rows g.M.FrameMap.count g.S.StackMemory.words c.args.self.now) s c.args.slot h c.if-not-is-running.ensures (omega arith) inside,
+      slot_read _ s c.args.slot h c.if-not-is_running.ensures (omega arith) inside,
+      c.in-Ok.ensures.word ∙ ap (λ k. get_or (g.S.StackMemory.words c.args.self.now.memory) k 0) place ∙ slot_word (view_of g.M.FrameMap.rows g.M.FrameMap.count g.S.StackMemory.words c.args.self.now) s c.args.slot h c.if-not-is_running.ensures (omega arith) inside,
     )
 
 pub returns-in-Err : goal.returns-in-Err

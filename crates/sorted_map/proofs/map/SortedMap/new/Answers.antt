@@ -7,19 +7,19 @@ use Rattle.sorted_map.proofs.map.SortedMap.new.Goals as goal
 
 pub invariant-of-result : goal.invariant-of-result
 invariant-of-result c =
-    let h = subst (λ ws. HasRows ws c.in-ok-rows.rows) c.as-slice.ensures.value c.in-ok-rows.ensures in
-    let same = first_is (vec_items c.args.image) h.entries c.in-ok-rows.rows h.many h.means in (
+    let h = subst (λ ws. HasRows ws c.in_ok-rows.rows) c.as_slice.ensures.value c.in_ok-rows.ensures in
+    let same = first_is (vec_items c.args.image) h.entries c.in_ok-rows.rows h.many h.means in (
       omega (arith, c.args.image.ok.0, means_long (vec_items c.args.image) h.entries h.means, h.many),
       (lit< tt, (∣ subst Table (sym same) h.means.table ∣₁, tt)),
     )
 
 pub returns : goal.returns
 returns c =
-    let h = subst (λ ws. HasRows ws c.in-ok-rows.rows) c.as-slice.ensures.value c.in-ok-rows.ensures in
+    let h = subst (λ ws. HasRows ws c.in_ok-rows.rows) c.as_slice.ensures.value c.in_ok-rows.ensures in
     record {
       entries = h.entries;
       means = h.means;
       many = h.many;
-      rows = λ p. ap (λ es. row_for p es) (first_is (vec_items c.args.image) h.entries c.in-ok-rows.rows h.many h.means);
+      rows = λ p. ap (λ es. row_for p es) (first_is (vec_items c.args.image) h.entries c.in_ok-rows.rows h.many h.means);
       fresh = refl;
     }

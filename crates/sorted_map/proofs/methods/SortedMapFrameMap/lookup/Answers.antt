@@ -7,5 +7,5 @@ use Rattle.sorted_map.proofs.methods.SortedMapFrameMap.lookup.Goals as goal
 pub find-requires : goal.find-requires
 find-requires c = record {
   whole = search rules;
-  table = subst (λ ws. Table (first_entries ws c.args.self.now.rows)) (sym c.as-slice.ensures.value) (table_of c.args.self.now);
+  table = subst (λ ws. Table (first_entries ws c.args.self.now.rows)) (sym c.as_slice.ensures.value) (table_of c.args.self.now);
 }

@@ -20,8 +20,8 @@ returns c =
     let i : ℕ = c.args.index in
     let in_image : i < length (vec_items m.image) / 4 = omega (arith, m.image.ok.0, c.len.ensures) in
     let in_bits : i / 32 < length (vec_items m.written) = omega (arith, m.mapped, m.image.ok.0, m.written.ok.0) in
-    let mask : c.index-mut-2.result.now ≡ get_or (vec_items m.written) (i / 32) 0 = get_or_read (vec_items m.written) (i / 32) c.index-mut-2.result.now in_bits c.index-mut-2.ensures.value 0 in
-    let put : set (vec_items m.written) (i / 32) (bit_or c.index-mut-2.result.now ((1 * 2 ^ (i % 32)) % 2 ^ 32)) ≡ with_bit (vec_items m.written) i
+    let mask : c.index_mut-2.result.now ≡ get_or (vec_items m.written) (i / 32) 0 = get_or_read (vec_items m.written) (i / 32) c.index_mut-2.result.now in_bits c.index_mut-2.ensures.value 0 in
+    let put : set (vec_items m.written) (i / 32) (bit_or c.index_mut-2.result.now ((1 * 2 ^ (i % 32)) % 2 ^ 32)) ≡ with_bit (vec_items m.written) i
     = ap (λ x. set (vec_items m.written) (i / 32) (bit_or x ((1 * 2 ^ (i % 32)) % 2 ^ 32))) mask
     ∙ ap (λ x. set (vec_items m.written) (i / 32) (bit_or (get_or (vec_items m.written) (i / 32) 0) x)) (one_shl (i % 32) 32 (omega arith)) in
     record {
