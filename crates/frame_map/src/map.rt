@@ -32,9 +32,9 @@ pub trait FrameMap {
 
 // Every row of a map, by rising point.
 pub fn entries<M: FrameMap>(map: &mut M, heap: Global) -> Result<Vec<Entry>, AllocError>
-    ensures same { rows map.new ≡ rows map.old }
-    ensures counted { OnOk result (count map.new ≡ (count map.old + 2 ^ 16) % 2 ^ 32) }
-    ensures listed { IfOk result (λ v. v.items ≡ entries_below (rows map.old) (2 ^ 16)) }
+    ensures same { M.rows map.new ≡ M.rows map.old }
+    ensures counted { OnOk result (M.count map.new ≡ (M.count map.old + 2 ^ 16) % 2 ^ 32) }
+    ensures listed { IfOk result (λ v. v.items ≡ entries_below (M.rows map.old) (2 ^ 16)) }
 {
     let mut found = Vec::new(heap);
     for point in 0..1u32 << 16 {

@@ -6,7 +6,7 @@ use refusal::Refusal;
 
 // The row of a point for a frame of `size` words, by one lookup: refused by 8 where there is none, by 9 where it describes a frame of another size.
 pub fn fitting_row<M: FrameMap>(map: &mut M, point: u32, size: usize) -> Result<Row, Refusal>
-    ensures { FittingRow (M.FrameMap.rows map.old) (M.FrameMap.rows map.new) (M.FrameMap.count map.old) (M.FrameMap.count map.new) point size result }
+    ensures { FittingRow (M.rows map.old) (M.rows map.new) (M.count map.old) (M.count map.new) point size result }
 {
     match map.lookup(point) {
         None => Err(Refusal::NoRow),

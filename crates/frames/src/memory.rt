@@ -11,7 +11,7 @@ use stack_memory::StackMemory;
 
 // Puts a frame of `size` words at place `at`: the return address, and 0 in each slot. A frame without words changes nothing.
 pub fn lay_frame<S: StackMemory>(memory: &mut S, at: u16, size: u8, address: u32)
-    ensures { 1 ≤ size → at + size ≤ length (S.StackMemory.words memory.old) → S.StackMemory.words memory.new ≡ take at (S.StackMemory.words memory.old) ++ ((address ∷ replicate (size - 1) 0) ++ drop (at + size) (S.StackMemory.words memory.old)) }
+    ensures { 1 ≤ size → at + size ≤ length (S.words memory.old) → S.words memory.new ≡ take at (S.words memory.old) ++ ((address ∷ replicate (size - 1) 0) ++ drop (at + size) (S.words memory.old)) }
 {
     let start = usize::from(at);
     for i in 0..usize::from(size) {
@@ -29,7 +29,7 @@ pub fn is_marked(state: &State, frame: usize) -> bool
 
 // The return address of a frame: the point where the frame before it waits. A marker's replaced address is kept aside.
 pub fn return_address<S: StackMemory>(memory: &S, state: &State, frame: usize) -> Option<u32>
-    ensures { (rows : Rows) (s : Model) (xs fs : List Frame) (f : Frame) → Kept rows (S.StackMemory.words memory.now) state.now s → frames s ≡ xs ++ (f ∷ fs) → length fs ≡ frame → result ≡ Some f.back }
+    ensures { (rows : Rows) (s : Model) (xs fs : List Frame) (f : Frame) → Kept rows (S.words memory.now) state.now s → frames s ≡ xs ++ (f ∷ fs) → length fs ≡ frame → result ≡ Some f.back }
 {
     if frame >= state.depth {
         return None;

@@ -68,7 +68,7 @@ impl<R: Framed, const N: usize> Table<R, N> {
 
     // Drops the records above a frame, from the newest on.
     pub fn drop_above(&mut self, frame: usize)
-        ensures { DroppedAbove R.Framed.frame frame (records self.old) (records self.new) }
+        ensures { DroppedAbove R.frame frame (records self.old) (records self.new) }
     {
         while self.len > 0 {
             if self.items[self.len - 1].frame() <= frame {

@@ -20,7 +20,7 @@ pub struct Report {
 
 // How many rows a map has, and a line for each, by rising point.
 fn rows_text<M: FrameMap>(map: &mut M, heap: Global) -> Result<String, AllocError>
-    ensures { IfOk result (λ t. string_bytes t ≡ text_of_rows (entries_below (rows map.old) (2 ^ 16))) }
+    ensures { IfOk result (λ t. string_bytes t ≡ text_of_rows (entries_below (M.rows map.old) (2 ^ 16))) }
 {
     let all = entries(map, heap)?;
     let count = all.len();

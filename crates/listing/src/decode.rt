@@ -15,7 +15,7 @@ fn decode_waiting<M: FrameMap, S: StackMemory>(
     frame: usize,
     held: u8,
 ) -> Option<u8>
-    ensures { DecodedFrame (M.FrameMap.rows map.old) (M.FrameMap.rows map.new) (M.FrameMap.count map.old) (M.FrameMap.count map.new) (S.StackMemory.words memory.now) state.old state.new frame held result }
+    ensures { DecodedFrame (M.rows map.old) (M.rows map.new) (M.count map.old) (M.count map.new) (S.words memory.now) state.old state.new frame held result }
 {
     match return_address(memory, state, frame.saturating_add(1)) {
         None => None,
@@ -51,7 +51,7 @@ fn decode_all_waiting<M: FrameMap, S: StackMemory>(
     state: &mut State,
     from: usize,
 ) -> Option<u8>
-    ensures { DecodedWaiting (M.FrameMap.rows map.old) (M.FrameMap.rows map.new) (M.FrameMap.count map.old) (M.FrameMap.count map.new) (S.StackMemory.words memory.now) state.old state.new from result }
+    ensures { DecodedWaiting (M.rows map.old) (M.rows map.new) (M.count map.old) (M.count map.new) (S.words memory.now) state.old state.new from result }
 {
     let Some(mut held) = held_at(state, from) else {
         return None;
@@ -75,7 +75,7 @@ pub fn decode_from<M: FrameMap, S: StackMemory>(
     from: usize,
     row: &Row,
 ) -> Option<u8>
-    ensures { Decoded (M.FrameMap.rows map.old) (M.FrameMap.rows map.new) (M.FrameMap.count map.old) (M.FrameMap.count map.new) (S.StackMemory.words memory.now) state.old state.new from row.now result }
+    ensures { Decoded (M.rows map.old) (M.rows map.new) (M.count map.old) (M.count map.new) (S.words memory.now) state.old state.new from row.now result }
 {
     match decode_all_waiting(map, memory, state, from) {
         None => None,

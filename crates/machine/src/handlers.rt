@@ -14,7 +14,7 @@ const MAX_HANDLERS: usize = 64;
 impl<M: FrameMap, S: StackMemory> Machine<M, S> {
     // Adds a handler of the running frame: a raise makes it run on at `point`.
     pub fn try_at(&mut self, _pass: &Pass, point: u32) -> Result<(), Refusal>
-        ensures { Tries (view_of M.FrameMap.rows M.FrameMap.count S.StackMemory.words self.old) (view_of M.FrameMap.rows M.FrameMap.count S.StackMemory.words self.new) point result }
+        ensures { Tries (view_of M.rows M.count S.words self.old) (view_of M.rows M.count S.words self.new) point result }
     {
         if !self.state.is_running() {
             return Err(Refusal::WrongPhase);
@@ -35,7 +35,7 @@ impl<M: FrameMap, S: StackMemory> Machine<M, S> {
 
     // Removes the newest handler, which must be the running frame's.
     pub fn untry(&mut self, _pass: &Pass) -> Result<(), Refusal>
-        ensures { Untries (view_of M.FrameMap.rows M.FrameMap.count S.StackMemory.words self.old) (view_of M.FrameMap.rows M.FrameMap.count S.StackMemory.words self.new) result }
+        ensures { Untries (view_of M.rows M.count S.words self.old) (view_of M.rows M.count S.words self.new) result }
     {
         if !self.state.is_running() {
             return Err(Refusal::WrongPhase);
@@ -51,7 +51,7 @@ impl<M: FrameMap, S: StackMemory> Machine<M, S> {
 
     // Removes the newest handler and every frame above its frame, which runs on at the handler's point.
     pub fn raise(&mut self, _pass: &Pass) -> Result<Handler, Refusal>
-        ensures { Raises (view_of M.FrameMap.rows M.FrameMap.count S.StackMemory.words self.old) (view_of M.FrameMap.rows M.FrameMap.count S.StackMemory.words self.new) result }
+        ensures { Raises (view_of M.rows M.count S.words self.old) (view_of M.rows M.count S.words self.new) result }
     {
         if !self.state.is_running() {
             return Err(Refusal::WrongPhase);

@@ -16,7 +16,7 @@ const MAX_SIZE: u32 = 32;
 impl<M: FrameMap, S: StackMemory> Machine<M, S> {
     // Makes the running frame wait at `point`, and a frame of `size` words run, its slots 0.
     pub fn enter(&mut self, _pass: &Pass, point: u32, size: u32) -> Result<(), Refusal>
-        ensures { Enters (view_of M.FrameMap.rows M.FrameMap.count S.StackMemory.words self.old) (view_of M.FrameMap.rows M.FrameMap.count S.StackMemory.words self.new) point size result }
+        ensures { Enters (view_of M.rows M.count S.words self.old) (view_of M.rows M.count S.words self.new) point size result }
     {
         if !self.state.is_running() {
             return Err(Refusal::WrongPhase);
@@ -47,7 +47,7 @@ impl<M: FrameMap, S: StackMemory> Machine<M, S> {
 
     // Removes the running frame, and answers the point where the frame before it waited.
     pub fn leave(&mut self, _pass: &Pass) -> Result<u32, Refusal>
-        ensures { Leaves (view_of M.FrameMap.rows M.FrameMap.count S.StackMemory.words self.old) (view_of M.FrameMap.rows M.FrameMap.count S.StackMemory.words self.new) result }
+        ensures { Leaves (view_of M.rows M.count S.words self.old) (view_of M.rows M.count S.words self.new) result }
     {
         if !self.state.is_running() {
             return Err(Refusal::WrongPhase);

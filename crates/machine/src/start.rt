@@ -30,7 +30,7 @@ impl<M: FrameMap, S: StackMemory> Machine<M, S> {
 
     // Starts the script: one frame of `size` words and the registers, all 0.
     pub fn start(&mut self, spacing: u32, size: u32) -> Result<Pass, Refusal>
-        ensures { Starts (view_of M.FrameMap.rows M.FrameMap.count S.StackMemory.words self.old) (view_of M.FrameMap.rows M.FrameMap.count S.StackMemory.words self.new) spacing size result }
+        ensures { Starts (view_of M.rows M.count S.words self.old) (view_of M.rows M.count S.words self.new) spacing size result }
     {
         if self.state.is_started() {
             return Err(Refusal::WrongPhase);

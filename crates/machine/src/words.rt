@@ -12,7 +12,7 @@ const REGISTERS: u32 = 16;
 impl<M: FrameMap, S: StackMemory> Machine<M, S> {
     // The word in a slot of the running frame: slots are 1 to its size - 1.
     pub fn slot(&self, _pass: &Pass, slot: u32) -> Result<u32, Refusal>
-        ensures { Gets (view_of M.FrameMap.rows M.FrameMap.count S.StackMemory.words self.now) (view_of M.FrameMap.rows M.FrameMap.count S.StackMemory.words self.now) slot result }
+        ensures { Gets (view_of M.rows M.count S.words self.now) (view_of M.rows M.count S.words self.now) slot result }
     {
         if !self.state.is_running() {
             return Err(Refusal::WrongPhase);
@@ -30,7 +30,7 @@ impl<M: FrameMap, S: StackMemory> Machine<M, S> {
 
     // Puts a word into a slot of the running frame.
     pub fn set_slot(&mut self, _pass: &Pass, slot: u32, word: u32) -> Result<(), Refusal>
-        ensures { Puts (view_of M.FrameMap.rows M.FrameMap.count S.StackMemory.words self.old) (view_of M.FrameMap.rows M.FrameMap.count S.StackMemory.words self.new) slot word result }
+        ensures { Puts (view_of M.rows M.count S.words self.old) (view_of M.rows M.count S.words self.new) slot word result }
     {
         if !self.state.is_running() {
             return Err(Refusal::WrongPhase);
@@ -48,7 +48,7 @@ impl<M: FrameMap, S: StackMemory> Machine<M, S> {
 
     // The word in a register, r0 to r15.
     pub fn register(&self, _pass: &Pass, register: u32) -> Result<u32, Refusal>
-        ensures { GetsRegister (view_of M.FrameMap.rows M.FrameMap.count S.StackMemory.words self.now) (view_of M.FrameMap.rows M.FrameMap.count S.StackMemory.words self.now) register result }
+        ensures { GetsRegister (view_of M.rows M.count S.words self.now) (view_of M.rows M.count S.words self.now) register result }
     {
         if !self.state.is_running() {
             return Err(Refusal::WrongPhase);
@@ -61,7 +61,7 @@ impl<M: FrameMap, S: StackMemory> Machine<M, S> {
 
     // Puts a word into a register.
     pub fn set_register(&mut self, _pass: &Pass, register: u32, word: u32) -> Result<(), Refusal>
-        ensures { PutsRegister (view_of M.FrameMap.rows M.FrameMap.count S.StackMemory.words self.old) (view_of M.FrameMap.rows M.FrameMap.count S.StackMemory.words self.new) register word result }
+        ensures { PutsRegister (view_of M.rows M.count S.words self.old) (view_of M.rows M.count S.words self.new) register word result }
     {
         if !self.state.is_running() {
             return Err(Refusal::WrongPhase);

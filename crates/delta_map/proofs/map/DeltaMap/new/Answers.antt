@@ -3,10 +3,10 @@ use Rattle.delta_map.specs.Faults.{HasDeltaRows}
 use Rattle.delta_map.proofs.MapLaws.{rows_are}
 use Rattle.delta_map.proofs.map.DeltaMap.new.Goals as goal
 
-pub invariant-of-result : goal.invariant-of-result
-invariant-of-result c =
+pub invariant_of-result : goal.invariant_of-result
+invariant_of-result c =
     let h = subst (λ ws. HasDeltaRows ws c.in_ok--rows.-rows) c.as_slice.ensures.value c.in_ok--rows.ensures in
-    (lit< tt, (∣ (h.entries, h.means) ∣₁, tt))
+    record { counted = lit< tt; table = ∣ (h.entries, h.means) ∣₁ }
 
 pub returns : goal.returns
 returns c =

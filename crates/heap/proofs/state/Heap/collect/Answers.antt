@@ -27,15 +27,15 @@ pub copy_live-self-requires : goal.copy_live-self-requires
 copy_live-self-requires c =
     (content c.args.self.now, ready c.args.self.now c.args.roots.now c.in_default.ensures _ _ _ c.deref_mut.ensures.value c.deref_mut-2.ensures.value c.deref_mut-3.ensures.value)
 
-pub invariant-of-self : goal.invariant-of-self
-invariant-of-self c =
+pub invariant_of-self : goal.invariant_of-self
+invariant_of-self c =
     let h : Heap = c.args.self.now in
     let g : Gathered (content h) c.args.roots.now c.copy_live-self.new.roots (vec_items c.swap.new.x) (vec_items (with_items h.starts c.copy_live-self.new.starts)) c.copy_live-self.result =
     held (content h) c.args.roots.now c.copy_live-self.new.roots _ _ _ _ c.copy_live-self.result
     (c.copy_live-self.ensures (content h) (ready h c.args.roots.now c.in_default.ensures _ _ _ c.deref_mut.ensures.value c.deref_mut-2.ensures.value c.deref_mut-3.ensures.value))
-    (ap vec_items c.swap.ensures.x-after ∙ with_items_is h.idle c.copy_live-self.new.to (search rules)) (with_items_is h.starts c.copy_live-self.new.starts (search rules)) in
+    (ap vec_items c.swap.ensures.x_after ∙ with_items_is h.idle c.copy_live-self.new.to (search rules)) (with_items_is h.starts c.copy_live-self.new.starts (search rules)) in
     let s = g.sound in
-    (search rules, (search rules, (search rules, (search rules, (omega (arith, g.fits, h.fits, ap vec_len c.swap.ensures.x-after ∙ h.halves), (s.tiled.inside, (s.tiled.apart, (s.tiled.total, (s.tiled.counts, (s.near, (s.closed, tt)))))))))))
+    record { low = search rules; high = search rules; halves = search rules; flags = search rules; fits = omega (arith, g.fits, h.fits, ap vec_len c.swap.ensures.x_after ∙ h.halves); inside = s.tiled.inside; apart = s.tiled.apart; total = s.tiled.total; counts = s.tiled.counts; near = s.near; closed = s.closed }
 
 pub returns : goal.returns
 returns c =
@@ -43,5 +43,5 @@ returns c =
     let g : Gathered (content h) c.args.roots.now c.copy_live-self.new.roots (vec_items c.swap.new.x) (vec_items (with_items h.starts c.copy_live-self.new.starts)) c.copy_live-self.result =
     held (content h) c.args.roots.now c.copy_live-self.new.roots _ _ _ _ c.copy_live-self.result
     (c.copy_live-self.ensures (content h) (ready h c.args.roots.now c.in_default.ensures _ _ _ c.deref_mut.ensures.value c.deref_mut-2.ensures.value c.deref_mut-3.ensures.value))
-    (ap vec_items c.swap.ensures.x-after ∙ with_items_is h.idle c.copy_live-self.new.to (search rules)) (with_items_is h.starts c.copy_live-self.new.starts (search rules)) in
-    (c.in_default.ensures, ap vec_len c.swap.ensures.x-after ∙ h.halves, (g.list, g.collected))
+    (ap vec_items c.swap.ensures.x_after ∙ with_items_is h.idle c.copy_live-self.new.to (search rules)) (with_items_is h.starts c.copy_live-self.new.starts (search rules)) in
+    (c.in_default.ensures, ap vec_len c.swap.ensures.x_after ∙ h.halves, (g.list, g.collected))

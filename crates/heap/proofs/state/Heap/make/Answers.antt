@@ -9,8 +9,8 @@ use Rattle.heap.specs.Content.{content}
 use Rattle.heap.proofs.Soundness.{sound_of}
 use Rattle.heap.proofs.state.Heap.make.Goals as goal
 
-pub invariant-of-self : goal.invariant-of-self
-invariant-of-self c =
+pub invariant_of-self : goal.invariant_of-self
+invariant_of-self c =
     let h : Heap = c.args.self.now in
     let n : ℕ = h.used + (1 + (c.args.refs + c.args.plain)) in
     let ws : List ℕ = c.lay.new.words in
@@ -20,7 +20,7 @@ invariant-of-self c =
     let made : Sound (space ws ms n) = made_sound (vec_items h.words) ws (vec_items h.starts) ms h.used c.args.refs c.args.plain (search rules) (search rules) (search rules) (search rules) (sound_of h) in
     let s : Sound (space (vec_items (with_items h.words ws)) (vec_items (with_items h.starts ms)) n) =
     subst (λ x. Sound (space x (vec_items (with_items h.starts ms)) n)) (sym we) (subst (λ x. Sound (space ws x n)) (sym me) made) in
-    (search rules, (search rules, (search rules, (search rules, (search rules, (s.tiled.inside, (s.tiled.apart, (s.tiled.total, (s.tiled.counts, (s.near, (s.closed, tt)))))))))))
+    record { low = search rules; high = search rules; halves = search rules; flags = search rules; fits = search rules; inside = s.tiled.inside; apart = s.tiled.apart; total = s.tiled.total; counts = s.tiled.counts; near = s.near; closed = s.closed }
 
 pub returns : goal.returns
 returns c =

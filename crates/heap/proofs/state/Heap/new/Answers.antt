@@ -3,7 +3,7 @@ use Rattle.heap_model.specs.Objects.{space, Sound}
 use Rattle.heap_model.proofs.Changes.{sound_none}
 use Rattle.heap.proofs.state.Heap.new.Goals as goal
 
-pub invariant-of-result : goal.invariant-of-result
-invariant-of-result c =
+pub invariant_of-result : goal.invariant_of-result
+invariant_of-result c =
     let s : Sound (space (vec_items c.args.first) (vec_items c.args.starts) 0) = sound_none (vec_items c.args.first) (vec_items c.args.starts) in
-    (search rules, (search rules, (search rules, (search rules, (omega arith, (s.tiled.inside, (s.tiled.apart, (s.tiled.total, (s.tiled.counts, (s.near, (s.closed, tt)))))))))))
+    record { low = search rules; high = search rules; halves = search rules; flags = search rules; fits = omega arith; inside = s.tiled.inside; apart = s.tiled.apart; total = s.tiled.total; counts = s.tiled.counts; near = s.near; closed = s.closed }

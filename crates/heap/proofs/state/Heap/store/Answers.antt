@@ -7,8 +7,8 @@ use Rattle.heap.specs.Content.{content}
 use Rattle.heap.proofs.Soundness.{sound_of}
 use Rattle.heap.proofs.state.Heap.store.Goals as goal
 
-pub invariant-of-self : goal.invariant-of-self
-invariant-of-self c =
+pub invariant_of-self : goal.invariant_of-self
+invariant_of-self c =
     let h : Heap = c.args.self.now in
     let at : ℕ = c.args.place + c.args.field in
     let p : Place (content h) c.args.place = search rules in
@@ -22,4 +22,4 @@ invariant-of-self c =
     ] in
     let s : Sound (space (set (vec_items h.words) at c.args.word) (vec_items h.starts) h.used) =
     sound_stored (content h) (sound_of h) (c.args.place - 1) c.args.field c.args.word p.1 f at (omega (arith, p.0)) (omega (arith, h.words.ok.0, h.inside (c.args.place - 1) p.1, p.0, f)) good in
-    (search rules, (search rules, (search rules, (search rules, (search rules, (s.tiled.inside, (s.tiled.apart, (s.tiled.total, (s.tiled.counts, (s.near, (s.closed, tt)))))))))))
+    record { low = search rules; high = search rules; halves = search rules; flags = search rules; fits = search rules; inside = s.tiled.inside; apart = s.tiled.apart; total = s.tiled.total; counts = s.tiled.counts; near = s.near; closed = s.closed }

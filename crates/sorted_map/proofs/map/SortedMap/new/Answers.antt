@@ -5,13 +5,15 @@ use Rattle.sorted_map.specs.Layout.{HasRows}
 use Rattle.sorted_map.specs.SearchLaws.{first_is, means_long}
 use Rattle.sorted_map.proofs.map.SortedMap.new.Goals as goal
 
-pub invariant-of-result : goal.invariant-of-result
-invariant-of-result c =
+pub invariant_of-result : goal.invariant_of-result
+invariant_of-result c =
     let h = subst (λ ws. HasRows ws c.in_ok-rows.rows) c.as_slice.ensures.value c.in_ok-rows.ensures in
-    let same = first_is (vec_items c.args.image) h.entries c.in_ok-rows.rows h.many h.means in (
-      omega (arith, c.args.image.ok.0, means_long (vec_items c.args.image) h.entries h.means, h.many),
-      (lit< tt, (∣ subst Table (sym same) h.means.table ∣₁, tt)),
-    )
+    let same = first_is (vec_items c.args.image) h.entries c.in_ok-rows.rows h.many h.means in
+    record {
+      whole = omega (arith, c.args.image.ok.0, means_long (vec_items c.args.image) h.entries h.means, h.many);
+      counted = lit< tt;
+      table = ∣ subst Table (sym same) h.means.table ∣₁;
+    }
 
 pub returns : goal.returns
 returns c =
