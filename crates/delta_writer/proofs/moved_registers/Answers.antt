@@ -13,8 +13,8 @@ loop-k-preserved c =
     ∙ ap (λ n. mask_of (moved c.args.was.now c.args.saved.now) c.loop-k.k + n) c.flag_bit-mask.ensures
     ∙ mask_next (moved c.args.was.now c.args.saved.now) c.loop-k.k
 
-pub overflow-add-mask : goal.overflow-add-mask
-overflow-add-mask c =
+pub overflow_add-mask : goal.overflow_add-mask
+overflow_add-mask c =
     let most : c.loop-k.k + 1 ≤ 8 = omega arith in
     let all : 2 ^ (c.loop-k.k + 1) ≤ 2 ^ 8 = pow_mono most in
     omega (arith, loop-k-preserved c, mask_low (moved c.args.was.now c.args.saved.now) (c.loop-k.k + 1))

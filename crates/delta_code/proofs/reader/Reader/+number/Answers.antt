@@ -24,11 +24,11 @@ fits t c =
     number_fits c.args.bytes c.in_ok-low.low c.in_ok-high.high (omega arith) c.requires low
     (number_small (c.args.bytes - 1) c.in_ok-high.high c.byte.new.self c.number.new.self c.in_ok-high.ensures)
 
-pub overflow-mul-result : goal.overflow-mul-result
-overflow-mul-result t c = omega (arith, fits t c)
+pub overflow_mul-result : goal.overflow_mul-result
+overflow_mul-result t c = omega (arith, fits t c)
 
-pub overflow-add-result : goal.overflow-add-result
-overflow-add-result t c = omega (arith, fits t c)
+pub overflow_add-result : goal.overflow_add-result
+overflow_add-result t c = omega (arith, fits t c)
 
 pub returns : goal.returns
 returns t c =

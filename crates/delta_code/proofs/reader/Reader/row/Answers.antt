@@ -45,13 +45,13 @@ returns-in_err-saved c =
     (on_flag (λ t. changed_in 1 t c.args.before.now.untouched) (behind_untouched c.args.flags c.args.before.now c.in_ok-size.size c.in_ok-slots.slots c.in_ok-registers.registers) c.has_flag-4.ensures (rw c.from-2.ensures at c.in_ok-untouched.ensures)
     (no_flag (λ t. saved_in t c.args.before.now.saved) (λ v q. Some (record { size = c.in_ok-size.size; slots = c.in_ok-slots.slots; saved = v; registers = c.in_ok-registers.registers; untouched = c.in_ok-untouched.untouched }, q)) c.has_flag-5.ensures c.in_err-saved.ensures))))))
 
-pub overflow-cast-result : goal.overflow-cast-result
-overflow-cast-result c =
+pub overflow_cast-result : goal.overflow_cast-result
+overflow_cast-result c =
     let low : c.args.before.now.registers < 65536 = search rules in
     omega (arith, changed_small 2 c.has_flag-3.result c.args.before.now.registers c.in_ok-registers.registers c.changed.new.self c.changed-2.new.self low (rw c.from.ensures at c.in_ok-registers.ensures))
 
-pub overflow-cast-result-2 : goal.overflow-cast-result-2
-overflow-cast-result-2 c =
+pub overflow_cast-result-2 : goal.overflow_cast-result-2
+overflow_cast-result-2 c =
     let low : c.args.before.now.untouched < 256 = search rules in
     omega (arith, changed_small 1 c.has_flag-4.result c.args.before.now.untouched c.in_ok-untouched.untouched c.changed-2.new.self c.changed-3.new.self low (rw c.from-2.ensures at c.in_ok-untouched.ensures))
 

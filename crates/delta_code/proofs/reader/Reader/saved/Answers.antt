@@ -32,8 +32,8 @@ returns-in_err-slot c =
     (took_then (on_slots c.in_ok-moved.moved c.loop-k.k) c.loop-k.invariant
     (took_none (λ y q. Some (set c.loop-k.saved c.loop-k.k y, q)) (rw c.from.ensures at c.in_err-slot.ensures))))))))
 
-pub overflow-cast-saved : goal.overflow-cast-saved
-overflow-cast-saved c =
+pub overflow_cast-saved : goal.overflow_cast-saved
+overflow_cast-saved c =
     let low : get_or c.loop-k.saved c.loop-k.k 0 < 256 = search rules in
     let read = rw c.from.ensures at c.in_ok-slot.ensures in
     omega (arith, changed_small 1 (stands c.in_ok-moved.moved c.loop-k.k) (get_or c.loop-k.saved c.loop-k.k 0) c.in_ok-slot.slot c.loop-k.self c.changed.new.self low read)

@@ -12,8 +12,8 @@ returns-then-step-eq0 c =
     took_as (λ bs. step_narrow c.args.wide bs c.if-not-wide.true)
     (took_then (on_step 0) c.in_ok-step.ensures (took_here (step_low 0 c.in_ok-step.step _ (omega (arith, c.if-step-eq0.true)))))
 
-pub overflow-cast-result : goal.overflow-cast-result
-overflow-cast-result c = omega (arith, number_small 1 c.in_ok-step.step c.args.self.now c.number.new.self c.in_ok-step.ensures)
+pub overflow_cast-result : goal.overflow_cast-result
+overflow_cast-result c = omega (arith, number_small 1 c.in_ok-step.step c.args.self.now c.number.new.self c.in_ok-step.ensures)
 
 pub returns-then-not-wide : goal.returns-then-not-wide
 returns-then-not-wide c =
@@ -30,8 +30,8 @@ returns-then-step-le-NARROW_END c =
     took_as (λ bs. step_wide c.args.wide bs c.if-not-wide.false)
     (took_then (on_step 255) c.in_ok-step-2.ensures (took_here (step_low 255 c.in_ok-step-2.step _ c.if-step-le-NARROW_END.true)))
 
-pub overflow-cast-result-2 : goal.overflow-cast-result-2
-overflow-cast-result-2 c = omega (arith, number_small 2 c.in_ok-step-2.step c.args.self.now c.number-2.new.self c.in_ok-step-2.ensures)
+pub overflow_cast-result-2 : goal.overflow_cast-result-2
+overflow_cast-result-2 c = omega (arith, number_small 2 c.in_ok-step-2.step c.args.self.now c.number-2.new.self c.in_ok-step-2.ensures)
 
 pub returns : goal.returns
 returns c =
