@@ -22,36 +22,36 @@ pub loop-frame-init : goal.loop-frame-init
 loop-frame-init g c = (
   refl,
   record { phase_same = refl; spacing_same = refl; depth_same = refl; edges_same = refl; registers_same = refl; handlers_same = refl; level_same = refl; markers_same = refl },
-  λ s kept under first. (first, sym (ap (λ k. after (g.M.FrameMap.count c.args.map.now) k) (let e : c.args.from - c.args.from ≡ 0 = omega arith in e) ∙ after_none (g.M.FrameMap.count c.args.map.now))),
+  λ s h low. (
+      learned_first _ _ _ _ s c.args.from c.in-Some.held h low c.truncate.ensures (λ xs gs up parts n. c.in-Some.ensures _ _ s xs gs up h parts n low),
+      sym (ap (λ k. after (g.M.FrameMap.count c.args.map.now) k) (let e : c.args.from - c.args.from ≡ 0 = omega arith in e) ∙ after_none (g.M.FrameMap.count c.args.map.now)),
+    ),
 )
 
 pub returns-in-None : goal.returns-in-None
 returns-in-None g c = record {
   same = c.in-None.ensures.same ∙ c.loop-frame.invariant.0;
-  tables = same_trans _ _ _ (record { phase_same = refl; spacing_same = refl; depth_same = refl; edges_same = refl; registers_same = refl; handlers_same = refl; level_same = refl; markers_same = refl }) (same_trans _ _ _ c.loop-frame.invariant.1 c.in-None.ensures.tables);
+  tables = same_trans _ _ _ c.loop-frame.invariant.1 c.in-None.ensures.tables;
   decodes = λ s h low.
-      let under = h.placed.low in
       let deep = h.lies.deep in
-      let now = c.loop-frame.invariant.2 s (kept_same _ _ _ _ s (kept_of _ _ _ s h) (record { phase_same = refl; spacing_same = refl; depth_same = refl; edges_same = refl; registers_same = refl; handlers_same = refl; level_same = refl; markers_same = refl })) (omega arith) (learned_first _ _ _ _ s c.args.from c.in-Some.held h low c.truncate.ensures (λ xs gs up parts n. c.in-Some.ensures _ _ s xs gs up h parts n low)) in
-      absurd (loop_stops _ _ _ _ _ _ _ _ _ s c.loop-frame.frame c.loop-frame.held c.loop-frame.invariant.0 c.loop-frame.invariant.1 (kept_same _ _ _ _ s (kept_of _ _ _ s h) (record { phase_same = refl; spacing_same = refl; depth_same = refl; edges_same = refl; registers_same = refl; handlers_same = refl; level_same = refl; markers_same = refl })) now.0 (omega (arith, c.saturating_sub-frame-end.ensures)) c.in-None.ensures);
+      let now = c.loop-frame.invariant.2 s h low in
+      absurd (loop_stops _ _ _ _ _ _ _ _ _ s c.loop-frame.frame c.loop-frame.held c.loop-frame.invariant.0 c.loop-frame.invariant.1 (kept_of _ _ _ s h) now.0 (omega (arith, c.saturating_sub-frame-end.ensures)) c.in-None.ensures);
 }
 
 pub loop-frame-preserved : goal.loop-frame-preserved
 loop-frame-preserved g c = (
   c.in-Some-decode_waiting.ensures.same ∙ c.loop-frame.invariant.0,
   same_trans _ _ _ c.loop-frame.invariant.1 c.in-Some-decode_waiting.ensures.tables,
-  λ s kept under first.
-      loop_step _ _ _ _ _ _ _ _ _ _ s c.args.from c.loop-frame.frame c.loop-frame.held c.in-Some-decode_waiting.behind c.loop-frame.invariant.0 c.loop-frame.invariant.1 kept (c.loop-frame.invariant.2 s kept under first) c.loop-frame.auto.frame
+  λ s h low.
+      loop_step _ _ _ _ _ _ _ _ _ _ s c.args.from c.loop-frame.frame c.loop-frame.held c.in-Some-decode_waiting.behind c.loop-frame.invariant.0 c.loop-frame.invariant.1 (kept_of _ _ _ s h) (c.loop-frame.invariant.2 s h low) c.loop-frame.auto.frame
       (omega (arith, c.saturating_sub-frame-end.ensures)) c.in-Some-decode_waiting.ensures,
 )
 
 pub returns : goal.returns
 returns g c = record {
   same = c.loop-frame.invariant.0;
-  tables = same_trans _ _ _ (record { phase_same = refl; spacing_same = refl; depth_same = refl; edges_same = refl; registers_same = refl; handlers_same = refl; level_same = refl; markers_same = refl }) c.loop-frame.invariant.1;
+  tables = c.loop-frame.invariant.1;
   decodes = λ s h low.
-      let under = h.placed.low in
       let deep = h.lies.deep in
-      let now = c.loop-frame.invariant.2 s (kept_same _ _ _ _ s (kept_of _ _ _ s h) (record { phase_same = refl; spacing_same = refl; depth_same = refl; edges_same = refl; registers_same = refl; handlers_same = refl; level_same = refl; markers_same = refl })) (omega arith) (learned_first _ _ _ _ s c.args.from c.in-Some.held h low c.truncate.ensures (λ xs gs up parts n. c.in-Some.ensures _ _ s xs gs up h parts n low)) in
-      loop_ends _ _ _ _ _ _ s c.args.from c.loop-frame.frame c.loop-frame.held h low (omega (arith, c.saturating_sub-frame-end.ensures, c.loop-frame.auto.frame-end (omega (arith, c.saturating_sub-frame-end.ensures)))) now;
+      loop_ends _ _ _ _ _ _ s c.args.from c.loop-frame.frame c.loop-frame.held h low (omega (arith, c.saturating_sub-frame-end.ensures, c.loop-frame.auto.frame-end (omega (arith, c.saturating_sub-frame-end.ensures)))) (c.loop-frame.invariant.2 s h low);
 }
