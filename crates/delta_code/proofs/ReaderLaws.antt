@@ -1,5 +1,5 @@
 -- How the reader's steps join.
-use Rattle.std.proofs.Common.{◌≡◌, ℕ, zero, suc, ◌+◌, ◌-◌, ◌*◌, ◌^◌, ◌<◌, ◌≤◌, min, Bool, true, false, cond, not, eqb, ltb, leb, ◌⊎◌, List, [], ◌∷◌, ◌++◌, length, get_or, take, drop, set, ℤ, pos, negsuc, ◌+ℤ◌, nat_abs, ◌≤ℤ◌, ◌<ℤ◌, Some, None, Option, sym, refl, ap, ◌∙◌, subst, inl, inr, ⊎_elim, pow-suc, add-one, arith, w8, to_z}
+use Rattle.std.proofs.Common.{◌≡◌, ℕ, zero, suc, ◌+◌, ◌-◌, ◌*◌, ◌^◌, ◌<◌, ◌≤◌, min, Bool, true, false, not, eqb, ltb, leb, List, length, get_or, take, drop, set, ℤ, pos, negsuc, ◌+ℤ◌, nat_abs, ◌≤ℤ◌, ◌<ℤ◌, Some, None, Option, sym, refl, ap, ◌∙◌, subst, ⊎_elim, pow-suc, add-one, arith, w8, to_z}
 use native.Mathlib.Nat.{pow-le-pow_right}
 use mir.Val.{sel}
 use Rattle.std.specs.Option.{SomeIff}
@@ -9,7 +9,7 @@ use Rattle.std.proofs.lemmas.Bool.{cases_lt, eq-eqb, ne_eqb, lt-ltb, le-ltb, le-
 use Rattle.frame_map.specs.Rows.{Lawful}
 use Rattle.frame_map.specs.declared.row.Entry.{Entry}
 use Rattle.frame_map.specs.declared.row.Row.{Row}
-use Rattle.delta_layout.specs.Codes.{code, Next}
+use Rattle.delta_layout.specs.Codes.{code}
 use Rattle.delta_layout.specs.Parsing.{Parsed, and_then, only_if, with_rest, stands, byte_in, number_in, changed_in, step_in, shifted, size_in, slot_in, slots_in, saved_in, row_in, fields_in, entry_in}
 use Rattle.delta_code.specs.Reading.{rest, Took, GotRow, NoRow}
 use Rattle.delta_code.specs.declared.reader.Reader.{Reader}

@@ -1,15 +1,13 @@
 -- Rows coded one after another: their codes tell them, and are short.
-use Rattle.std.proofs.Common.{◌≡◌, ℕ, zero, suc, ◌+◌, ◌-◌, ◌*◌, ◌^◌, ◌<◌, ◌≤◌, ◌⊎◌, List, [], ◌∷◌, ◌++◌, length, sym, refl, ap, ◌∙◌, subst, inl, inr, ⊎_elim, append_assoc, append-nil, arith}
+use Rattle.std.proofs.Common.{◌≡◌, ℕ, zero, suc, ◌*◌, ◌<◌, ◌≤◌, List, [], ◌∷◌, ◌++◌, length, sym, refl, ap, ◌∙◌, subst, ⊎_elim, append_assoc, arith}
 use Rattle.std.proofs.lemmas.List.{length-append, append_cancel_left}
-use Rattle.frame_map.specs.Maps.{Point}
 use Rattle.frame_map.specs.Rows.{Lawful}
 use Rattle.frame_map.specs.Tables.{Table, entry_at}
 use Rattle.frame_map.specs.declared.row.Entry.{Entry}
 use Rattle.delta_layout.specs.Codes.{origin, code, codes, Next}
-use Rattle.delta_image.specs.Buckets.{bucket_of, in_bucket, body, start}
+use Rattle.delta_image.specs.Buckets.{bucket_of, in_bucket}
 use Rattle.delta_image.specs.Images.{Bucket}
-use Rattle.delta_image.proofs.Layouts.{body_more}
-use Rattle.delta_image.proofs.Merging.{Belong, bucket_belongs, bucket_rises, in_more, in_same, in_none, total, total_all}
+use Rattle.delta_image.proofs.Merging.{Belong, bucket_belongs, bucket_rises, in_more, in_same, in_none}
 use Rattle.frame_map.proofs.Listing.{table_rising}
 use Rattle.frame_map.proofs.Rising.{Rises, rises_low, rises_high, rises_pairs, rises_from}
 use Rattle.std.proofs.lemmas.Bool.{cases_eq}

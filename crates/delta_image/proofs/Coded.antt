@@ -1,9 +1,9 @@
 -- What is known of the code of one row: it tells the row, and takes 1 to 20 bytes.
-use Rattle.std.proofs.Common.{◌≡◌, ℕ, zero, suc, ◌+◌, ◌<◌, ◌≤◌, Bool, true, false, cond, eqb, List, [], ◌∷◌, ◌++◌, length, get_or, sym, refl, ap, ◌∙◌, subst, arith}
+use Rattle.std.proofs.Common.{◌≡◌, ℕ, zero, suc, ◌≤◌, Bool, true, false, cond, eqb, List, [], ◌∷◌, ◌++◌, length, get_or, refl, ap, arith}
 use Rattle.std.proofs.lemmas.List.{length-append}
 use Rattle.frame_map.specs.declared.row.Entry.{Entry}
 use Rattle.delta_layout.specs.Bytes.{bytes}
-use Rattle.delta_layout.specs.Codes.{code, code_bits, wide, step, resized, signed_difference, changed, resaved, moved, moved_mask, moved_slots}
+use Rattle.delta_layout.specs.Codes.{code, wide, step, resized, signed_difference, changed, resaved, moved, moved_mask, moved_slots}
 use Rattle.delta_layout.proofs.CodeLaws.{code_unique}
 use Rattle.delta_image.proofs.Chains.{Coding}
 

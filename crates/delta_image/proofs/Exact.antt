@@ -1,7 +1,7 @@
 -- Which images are those of tables.
-use Rattle.std.proofs.Common.{◌≡◌, ℕ, zero, suc, ◌+◌, ◌-◌, ◌*◌, ◌^◌, ◌<◌, ◌≤◌, ◌⊎◌, List, [], ◌∷◌, ◌++◌, length, get_or, take, drop, replicate, Some, None, sym, refl, ap, ◌∙◌, subst, inl, inr, ⊎_elim, append_assoc, append-nil, arith}
+use Rattle.std.proofs.Common.{◌≡◌, ℕ, zero, suc, ◌+◌, ◌-◌, ◌*◌, ◌<◌, ◌≤◌, List, [], ◌∷◌, ◌++◌, length, get_or, replicate, sym, refl, ap, ◌∙◌, subst, ⊎_elim, append_assoc, append-nil, arith}
 use Rattle.std.proofs.lemmas.List.{length-append, get_or_append_left, get_or-replicate, get_or_past}
-use Rattle.std.proofs.lemmas.Bool.{cases_eq, cases_lt}
+use Rattle.std.proofs.lemmas.Bool.{cases_lt}
 use Rattle.words.proofs.BitLaws.{bit_of_zero}
 use Rattle.frame_map.specs.Maps.{Point}
 use Rattle.frame_map.specs.Rows.{Lawful, saved_slot}
@@ -9,13 +9,13 @@ use Rattle.frame_map.specs.Tables.{Table, blank, entry_at, row_for}
 use Rattle.frame_map.specs.declared.row.Entry.{Entry}
 use Rattle.frame_map.proofs.Listing.{table_rising}
 use Rattle.frame_map.proofs.TableLaws.{row_for_some}
-use Rattle.delta_layout.specs.Codes.{origin, code, codes, Next}
+use Rattle.delta_layout.specs.Codes.{origin, code, codes}
 use Rattle.delta_image.specs.Buckets.{bucket_of, in_bucket, body, start, delta_bytes, DeltaMeans}
-use Rattle.delta_image.specs.Images.{start_in, stretch, GoodStarts, Bucket, rows_in, GoodFront, BadRow, BadStart}
-use Rattle.delta_image.proofs.Chains.{Chain, last_of, Coding, front, codes_short, bucket_chain, bucket_rising, bucket_belong, table_bucket}
-use Rattle.delta_image.proofs.Layouts.{body_more, image_length, start_is, laid_starts, laid_bucket, laid_whole, starts_inside}
+use Rattle.delta_image.specs.Images.{start_in, stretch, GoodStarts, Bucket, rows_in, BadRow, BadStart}
+use Rattle.delta_image.proofs.Chains.{last_of, Coding, front, codes_short, bucket_chain, bucket_rising, bucket_belong, table_bucket}
+use Rattle.delta_image.proofs.Layouts.{body_more, laid_starts, laid_bucket, laid_whole, starts_inside}
 use Rattle.delta_image.proofs.Merging.{merged, merged_rises, merged_rows, merged_bucket, row_in_bucket, total, total_same, total_all, bucket_small}
-use Rattle.frame_map.proofs.Rising.{Rises, rises_lower, rises_pairs, rises_high, rises_at, determined}
+use Rattle.frame_map.proofs.Rising.{rises_lower, rises_pairs, rises_high, rises_at, determined}
 use Rattle.delta_image.proofs.Stretches.{stretch-length, stretch_join}
 
 no_slot : (k : ℕ) → saved_slot origin.row k ≡ 0

@@ -1,20 +1,19 @@
 -- Good rows, one more at a time.
-use Rattle.std.proofs.Common.{◌≡◌, ℕ, zero, suc, ◌+◌, ◌-◌, ◌*◌, ◌^◌, ◌<◌, ◌≤◌, true, false, cond, eqb, ◌⊎◌, List, [], ◌∷◌, ◌++◌, length, get_or, take, drop, sym, refl, ap, ◌∙◌, subst, inl, inr, ⊎_elim, append_assoc, append-nil, arith}
+use Rattle.std.proofs.Common.{◌≡◌, ℕ, zero, suc, ◌+◌, ◌<◌, ◌≤◌, cond, eqb, List, [], ◌∷◌, ◌++◌, length, get_or, sym, refl, ap, ◌∙◌, subst, ⊎_elim, append_assoc, append-nil, arith}
 use Rattle.std.proofs.lemmas.List.{length-append, length_push, get_or_append_left, get_or_push, append_cancel_left, append_cancel_right}
 use Rattle.std.proofs.lemmas.Bool.{cases_eq, cases_lt, eq-eqb, ne_eqb, cond-true, cond-false}
 use Rattle.frame_map.specs.Maps.{Point}
 use Rattle.frame_map.specs.Rows.{Lawful}
-use Rattle.frame_map.specs.Tables.{Table, blank, entry_at}
+use Rattle.frame_map.specs.Tables.{blank, entry_at}
 use Rattle.frame_map.specs.declared.row.Entry.{Entry}
 use Rattle.delta_layout.specs.Codes.{origin, code, codes, Next}
-use Rattle.delta_image.specs.Buckets.{bucket_of, in_bucket, DeltaMeans}
+use Rattle.delta_image.specs.Buckets.{bucket_of, DeltaMeans}
 use Rattle.delta_image.specs.Images.{start_in, stretch, GoodStarts, Bucket, rows_in, GoodFront, BadRow}
-use Rattle.delta_image.proofs.Chains.{Chain, last_of, Coding, bucket_chain, bucket_rising, bucket_belong}
+use Rattle.delta_image.proofs.Chains.{Chain, last_of, Coding, bucket_chain}
 use Rattle.delta_image.proofs.Coded.{coding}
 use Rattle.delta_image.proofs.Exact.{codes-append, image_of_table, merged_length}
-use Rattle.delta_image.proofs.Layouts.{starts_inside}
 use Rattle.delta_image.proofs.Merging.{merged}
-use Rattle.delta_image.proofs.Stretches.{stretch-length, stretch_join, stretch_none}
+use Rattle.delta_image.proofs.Stretches.{stretch_join, stretch_none}
 
 no_bucket : (b : ℕ) → Bucket b []
 no_bucket b = record {

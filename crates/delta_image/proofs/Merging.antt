@@ -1,14 +1,13 @@
 -- One rising list of all entries, by going through the points.
-use Rattle.std.proofs.Common.{◌≡◌, ℕ, zero, suc, ◌+◌, ◌*◌, ◌%◌, ◌<◌, ◌≤◌, true, false, cond, eqb, ◌⊎◌, List, [], ◌∷◌, ◌++◌, length, Some, None, Option, sym, refl, ap, ◌∙◌, subst, inl, inr, ⊎_elim, arith}
+use Rattle.std.proofs.Common.{◌≡◌, ℕ, zero, suc, ◌+◌, ◌*◌, ◌%◌, ◌<◌, ◌≤◌, eqb, List, [], ◌∷◌, length, None, sym, refl, ap, ◌∙◌, subst, ⊎_elim, arith}
 use Rattle.std.proofs.lemmas.Nat.{div_below, mod_below}
 use Rattle.std.proofs.lemmas.Bool.{cases_eq, cases_lt, eq-eqb, ne_eqb, cond-true, cond-false}
-use Rattle.frame_map.specs.Maps.{Rows, entry_of, entries_below}
-use Rattle.frame_map.specs.Tables.{entry_at, row_for}
+use Rattle.frame_map.specs.Maps.{entries_below}
+use Rattle.frame_map.specs.Tables.{row_for}
 use Rattle.frame_map.specs.declared.row.Entry.{Entry}
-use Rattle.frame_map.specs.declared.row.Row.{Row}
 use Rattle.delta_image.specs.Buckets.{bucket_of, in_bucket}
 use Rattle.frame_map.proofs.Listing.{listed_rises, listed_rows}
-use Rattle.frame_map.proofs.Rising.{Rises, rises_lower, rises_append, rises_below, rises_above, row_for_head, row_for_tail, row_for_nil, row_for_left, row_for_right, determined}
+use Rattle.frame_map.proofs.Rising.{Rises, rises_lower, rises_above, row_for_head, row_for_tail, row_for_nil, determined}
 
 -- the entries of one bucket rise too
 pub bucket_rises : (b low high : ℕ) (es : List Entry) → Rises low es high → Rises low (in_bucket b es) high

@@ -1,5 +1,5 @@
 -- What a delta image holds, place by place, and which of its starts and rows is the first bad one.
-use Rattle.std.specs.Prelude.{◌≡◌, ℕ, zero, suc, ◌+◌, ◌-◌, ◌*◌, ◌<◌, ◌≤◌, List, [], ◌∷◌, ◌++◌, length, ◌≢◌, slice_index, slice_range}
+use Rattle.std.specs.Prelude.{◌≡◌, ℕ, zero, suc, ◌+◌, ◌*◌, ◌<◌, ◌≤◌, List, [], ◌∷◌, ◌++◌, length, ◌≢◌, slice_index, slice_range}
 use Rattle.frame_map.specs.Maps.{Point}
 use Rattle.frame_map.specs.Rows.{Lawful}
 use Rattle.frame_map.specs.Tables.{entry_at}

@@ -1,6 +1,6 @@
 -- A row is read exactly if its code stands there; so no code begins another, and all are short.
-use Rattle.std.proofs.Common.{◌≡◌, ℕ, zero, suc, ◌+◌, ◌-◌, ◌*◌, ◌/◌, ◌%◌, ◌^◌, ◌<◌, ◌≤◌, Bool, true, false, cond, not, eqb, ltb, leb, ◌⊎◌, List, [], ◌∷◌, ◌++◌, length, get_or, replicate, Some, None, sym, refl, ap, ◌∙◌, subst, inl, inr, ⊎_elim, zero-add, arith}
-use Rattle.std.proofs.lemmas.Nat.{div-add-mod', pow_pos}
+use Rattle.std.proofs.Common.{◌≡◌, ℕ, zero, suc, ◌+◌, ◌*◌, ◌/◌, ◌^◌, ◌<◌, ◌≤◌, Bool, true, false, cond, not, eqb, ltb, List, [], ◌∷◌, ◌++◌, length, get_or, replicate, Some, sym, refl, ap, ◌∙◌, subst, ⊎_elim, zero-add, arith}
+use Rattle.std.proofs.lemmas.Nat.{div-add-mod'}
 use Rattle.std.proofs.lemmas.List.{append_assoc, append-nil, length-append, get_or-replicate, get_or_past}
 use Rattle.std.proofs.lemmas.Bool.{ltb-true, lt-ltb, cases_eq, cases_lt}
 use Rattle.words.proofs.BitLaws.{bits_below, bit_of_zero}
@@ -9,7 +9,7 @@ use Rattle.frame_map.specs.declared.row.Entry.{Entry}
 use Rattle.frame_map.specs.declared.row.Row.{Row}
 use Rattle.delta_layout.specs.Bytes.{bytes}
 use Rattle.delta_layout.specs.Codes.{flag, changed, resized, signed_difference, mask_of, moved, moved_mask, moved_slots, resaved, step, step_code, wide, code_bits, code, Next, origin, codes, Chain, last_of}
-use Rattle.delta_layout.specs.Parsing.{and_then, only_if, stands, byte_in, changed_in, step_in, size_in, saved_in, row_in, fields_in, entry_in}
+use Rattle.delta_layout.specs.Parsing.{only_if, stands, byte_in, changed_in, step_in, size_in, saved_in, row_in, fields_in, entry_in}
 use Rattle.delta_layout.proofs.MaskLaws.{mask_bit, mask_low, mask_unique}
 use Rattle.delta_layout.proofs.ParseLaws.{then_some, if_some, then_at, if_at, same_value, same_rest, byte_sound, byte_whole, changed_sound, changed_whole, step_sound, step_whole, size_sound, size_whole}
 use Rattle.delta_layout.proofs.SlotLaws.{saved_sound, saved_whole, saved_length}

@@ -1,10 +1,9 @@
 -- Each field is read exactly if its code stands there.
-use Rattle.std.proofs.Common.{◌≡◌, ℕ, zero, suc, ◌+◌, ◌-◌, ◌*◌, ◌/◌, ◌%◌, ◌^◌, ◌<◌, ◌≤◌, Bool, true, false, cond, not, eqb, ltb, leb, ◌⊎◌, List, [], ◌∷◌, ◌++◌, length, get_or, set, Some, None, Option, sym, refl, ap, ◌∙◌, subst, inl, inr, ⊎_elim, pow-suc, arith}
-use Rattle.std.proofs.lemmas.List.{append_assoc, append-nil, length-set, get_or-set_same, get_or-set_other}
-use Rattle.std.proofs.lemmas.Bool.{ltb-true, lt-ltb, le-ltb, le-leb, leb-true, eqb-true, eqb-false, eq-eqb, ne_eqb, cases_eq, cases_lt, not-true, not_from_false, cases_Bool, ltb-false, cond-true, cond-false}
+use Rattle.std.proofs.Common.{◌≡◌, ℕ, zero, suc, ◌+◌, ◌-◌, ◌*◌, ◌/◌, ◌%◌, ◌^◌, ◌<◌, ◌≤◌, Bool, true, false, cond, not, eqb, ltb, leb, List, [], ◌∷◌, ◌++◌, Some, None, Option, sym, refl, ap, ◌∙◌, ⊎_elim, pow-suc, arith}
+use Rattle.std.proofs.lemmas.Bool.{ltb-true, lt-ltb, le-ltb, le-leb, leb-true, eqb-true, eqb-false, eq-eqb, ne_eqb, cases_lt, not-true, not_from_false, ltb-false, cond-true, cond-false}
 use Rattle.delta_layout.specs.Bytes.{bytes}
-use Rattle.delta_layout.specs.Codes.{flag, changed, resized, signed_difference, moved_mask, moved_slots, resaved}
-use Rattle.delta_layout.specs.Parsing.{Parsed, and_then, only_if, stands, byte_in, number_in, changed_in, step_in, shifted, with_rest, size_in, slot_in, slots_in, saved_in}
+use Rattle.delta_layout.specs.Codes.{changed, resized, signed_difference}
+use Rattle.delta_layout.specs.Parsing.{Parsed, and_then, only_if, byte_in, number_in, changed_in, step_in, shifted, with_rest, size_in}
 
 -- what was read before something was read
 pub then_some : {A B : Type 0} (o : Parsed A) (f : A → List ℕ → Parsed B) (v : B) (q : List ℕ) → and_then o f ≡ Some (v, q) → (x : A) × (r : List ℕ) × (o ≡ Some (x, r)) × (f x r ≡ Some (v, q))

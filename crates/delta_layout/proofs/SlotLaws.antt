@@ -1,10 +1,10 @@
 -- The saved slots that differ are read exactly if their code stands there.
-use Rattle.std.proofs.Common.{◌≡◌, ℕ, zero, suc, ◌+◌, ◌-◌, ◌*◌, ◌/◌, ◌%◌, ◌^◌, ◌<◌, ◌≤◌, Bool, true, false, cond, not, eqb, ltb, leb, ◌⊎◌, List, [], ◌∷◌, ◌++◌, length, get_or, set, Some, None, Option, sym, refl, ap, ◌∙◌, subst, inl, inr, ⊎_elim, arith}
+use Rattle.std.proofs.Common.{◌≡◌, ℕ, zero, suc, ◌/◌, ◌%◌, ◌^◌, ◌<◌, ◌≤◌, Bool, true, false, cond, not, eqb, List, [], ◌∷◌, ◌++◌, length, get_or, set, Some, sym, refl, ap, ◌∙◌, subst, ⊎_elim, arith}
 use Rattle.std.proofs.lemmas.List.{append_assoc, length-set, get_or-set_same, get_or-set_other, ext_get_or}
-use Rattle.std.proofs.lemmas.Bool.{eqb-true, eqb-false, eq-eqb, ne_eqb, cases_eq, not-true, not-false, not_from_false, not_from_true, cases_Bool, false≢true}
+use Rattle.std.proofs.lemmas.Bool.{eqb-true, eq-eqb, cases_eq, not-true, not-false, not_from_false, not_from_true, cases_Bool}
 use Rattle.words.proofs.BitLaws.{bit_of_zero}
-use Rattle.delta_layout.specs.Codes.{flag, mask_of, moved, moved_mask, moved_slots, resaved}
-use Rattle.delta_layout.specs.Parsing.{Parsed, and_then, only_if, stands, byte_in, slot_in, slots_in, saved_in}
+use Rattle.delta_layout.specs.Codes.{moved, moved_mask, moved_slots, resaved}
+use Rattle.delta_layout.specs.Parsing.{only_if, stands, byte_in, slot_in, slots_in, saved_in}
 use Rattle.delta_layout.proofs.MaskLaws.{mask_bit, mask_low, mask_unique, mask_none}
 use Rattle.delta_layout.proofs.ParseLaws.{then_some, if_some, then_at, if_at, same_value, same_rest, byte_sound, byte_whole}
 

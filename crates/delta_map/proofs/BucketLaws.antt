@@ -1,17 +1,17 @@
 -- A reader inside a bucket: what it has left, and how one row more is read.
-use Rattle.std.proofs.Common.{◌≡◌, ℕ, zero, suc, ◌+◌, ◌-◌, ◌*◌, ◌<◌, ◌≤◌, min, ◌⊎◌, List, [], ◌∷◌, ◌++◌, length, get_or, take, drop, sym, refl, ap, ◌∙◌, subst, inl, inr, ⊎_elim, arith}
-use Rattle.std.proofs.lemmas.List.{length-append, length-drop, length-take, length-take-le, drop-take, drop_at, take-append-drop}
-use Rattle.std.proofs.lemmas.Bool.{cases_eq, cases_lt}
+use Rattle.std.proofs.Common.{◌≡◌, ℕ, suc, ◌+◌, ◌-◌, ◌<◌, ◌≤◌, List, [], ◌∷◌, ◌++◌, length, take, drop, sym, refl, ap, ◌∙◌, subst, ⊎_elim, arith}
+use Rattle.std.proofs.lemmas.List.{length-append, drop-take}
+use Rattle.std.proofs.lemmas.Bool.{cases_lt}
 use Rattle.frame_map.specs.Rows.{Lawful}
 use Rattle.frame_map.specs.declared.row.Entry.{Entry}
-use Rattle.delta_layout.specs.Codes.{origin, code, codes, Next}
+use Rattle.delta_layout.specs.Codes.{origin, code, Next}
 use Rattle.delta_image.specs.Buckets.{bucket_of}
-use Rattle.delta_image.specs.Images.{start_in, stretch, GoodStarts, GoodFront, BadRow}
+use Rattle.delta_image.specs.Images.{start_in, stretch, GoodFront, BadRow}
 use Rattle.delta_image.proofs.Chains.{last_of}
 use Rattle.delta_image.proofs.Coded.{coding}
 use Rattle.delta_image.proofs.Exact.{origin_lawful}
 use Rattle.delta_image.proofs.Fronts.{front_row, front_bucket, bucket_more, bad_unread, bad_bucket, bad_full, nothing}
-use Rattle.delta_image.proofs.Layouts.{starts_inside, starts_rise}
+use Rattle.delta_image.proofs.Layouts.{starts_inside}
 use Rattle.delta_image.proofs.Stretches.{stretch-length, stretch_none}
 
 -- n good rows up to the byte `at` of bucket b, the last of them `before`

@@ -1,15 +1,15 @@
 -- A search in a bucket: what was read lies below the point, and what is left is coded behind it.
-use Rattle.std.proofs.Common.{◌≡◌, ℕ, zero, suc, ◌+◌, ◌-◌, ◌*◌, ◌<◌, ◌≤◌, ◌⊎◌, List, [], ◌∷◌, ◌++◌, length, take, drop, Some, None, sym, refl, ap, ◌∙◌, subst, inl, inr, ⊎_elim, append_assoc, append-nil, arith}
+use Rattle.std.proofs.Common.{◌≡◌, ℕ, suc, ◌+◌, ◌<◌, ◌≤◌, List, [], ◌∷◌, ◌++◌, length, take, drop, Some, None, sym, refl, ap, ◌∙◌, subst, ⊎_elim, arith}
 use Rattle.std.proofs.lemmas.List.{length-append, append_cancel_left}
-use Rattle.std.proofs.lemmas.Bool.{cases_eq, cases_lt}
+use Rattle.std.proofs.lemmas.Bool.{cases_lt}
 use Rattle.frame_map.specs.Rows.{Lawful}
 use Rattle.frame_map.specs.Tables.{row_for}
 use Rattle.frame_map.specs.declared.row.Entry.{Entry}
-use Rattle.frame_map.proofs.Rising.{row_for_head, row_for_tail, row_for_nil, row_for_right}
+use Rattle.frame_map.proofs.Rising.{row_for_head, row_for_tail, row_for_nil}
 use Rattle.delta_layout.specs.Codes.{origin, code, codes, Next}
 use Rattle.delta_image.specs.Buckets.{bucket_of, in_bucket, DeltaMeans}
-use Rattle.delta_image.specs.Images.{start_in, stretch, GoodStarts}
-use Rattle.delta_image.proofs.Chains.{Chain, last_of, bucket_chain, table_bucket}
+use Rattle.delta_image.specs.Images.{start_in, stretch}
+use Rattle.delta_image.proofs.Chains.{Chain, bucket_chain, table_bucket}
 use Rattle.delta_image.proofs.Coded.{coding}
 use Rattle.delta_image.proofs.Exact.{origin_lawful, table_starts, table_laid, table_unique}
 use Rattle.delta_image.proofs.Layouts.{starts_inside}

@@ -1,5 +1,5 @@
 -- The rows of a delta map, by any table that its image has.
-use Rattle.std.proofs.Common.{◌≡◌, ℕ, ◌^◌, ◌<◌, ◌≤◌, List, None, vec_items, sym, refl, ap, ◌∙◌, subst, arith}
+use Rattle.std.proofs.Common.{◌≡◌, ℕ, ◌≤◌, List, None, vec_items, sym, ap, subst}
 use mathlib.Core.Path.{fun_ext}
 use Rattle.frame_map.specs.Tables.{row_for}
 use Rattle.frame_map.specs.declared.row.Entry.{Entry}

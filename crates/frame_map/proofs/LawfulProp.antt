@@ -1,5 +1,5 @@
 -- Lawfulness is a proposition, so that a truncated fact of it can be used.
-use Rattle.std.proofs.Common.{◌≡◌, ℕ, ◌<◌, ◌≤◌, List}
+use Rattle.std.proofs.Common.{ℕ, List}
 use mathlib.Core.HLevel.{⊥_prop, Π_prop, ×_prop}
 use native.Mathlib.Bridge.{le_prop}
 use native.Mathlib.Nat.{ℕ_set}

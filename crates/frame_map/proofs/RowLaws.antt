@@ -1,12 +1,12 @@
 -- The tests of a row's masks, by what they compute.
-use Rattle.std.proofs.Common.{◌≡◌, ℕ, zero, suc, ◌+◌, ◌-◌, ◌*◌, ◌/◌, ◌%◌, ◌^◌, ◌<◌, ◌≤◌, min, ◌⊎◌, length, sym, refl, ap, ◌∙◌, subst, inl, inr, ⊎_elim, arith}
+use Rattle.std.proofs.Common.{◌≡◌, ℕ, ◌+◌, ◌*◌, ◌/◌, ◌%◌, ◌^◌, ◌<◌, ◌≤◌, min, ◌⊎◌, length, sym, ap, subst, inl, inr, ⊎_elim, arith}
 use lib.Bits.{bit_and, bit_or}
 use Rattle.std.proofs.lemmas.Nat.{pow_pos, div-add-mod'}
 use Rattle.std.proofs.lemmas.Bool.{cases_eq, cases_lt}
 use Rattle.std.proofs.lemmas.List.{get_or_past}
 use Rattle.words.specs.Bits.{Bit}
-use Rattle.words.proofs.BitLaws.{bit_below, bits_below, bit_put_same, bit_put_kept, bit_put_other, bit_and_from, bit_and_left, bit_and_right, no_bits, bit_of_zero, bit_shr, shr_bit, low_bit, bit_low}
-use Rattle.frame_map.specs.Rows.{Slot, Slotted, Masked, Sized, Saved, saved_slot}
+use Rattle.words.proofs.BitLaws.{bit_below, bits_below, bit_put_same, bit_put_kept, bit_put_other, bit_and_from, bit_and_left, bit_and_right, no_bits, bit_of_zero, bit_shr, shr_bit, bit_low}
+use Rattle.frame_map.specs.Rows.{Slot, Slotted, Masked, Saved, saved_slot}
 use Rattle.frame_map.specs.Taking.{Untakable}
 use Rattle.frame_map.specs.declared.row.Row.{Row}
 

@@ -1,5 +1,5 @@
 -- The rows of an image: a table from points to rows.
-use Rattle.std.specs.Prelude.{◌≡◌, ℕ, ◌<◌, ◌≤◌, cond, List, [], ◌∷◌, length, replicate, Some, None, Option, ◌==◌, slice_index_or}
+use Rattle.std.specs.Prelude.{ℕ, ◌<◌, ◌≤◌, cond, List, [], ◌∷◌, length, replicate, Some, None, Option, ◌==◌, slice_index_or}
 use Rattle.frame_map.specs.Maps.{Point}
 use Rattle.frame_map.specs.Rows.{Lawful}
 use Rattle.frame_map.specs.declared.row.Entry.{Entry}

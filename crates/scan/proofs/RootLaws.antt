@@ -1,13 +1,12 @@
 -- The scan by masks lists the roots.
-use Rattle.std.proofs.Common.{◌≡◌, ℕ, zero, suc, ◌+◌, ◌<◌, ◌≤◌, true, false, cond, ◌⊎◌, List, [], ◌∷◌, ◌++◌, length, Some, None, Option, sym, refl, ap, ◌∙◌, subst, inl, inr, ⊎_elim, arith}
+use Rattle.std.proofs.Common.{◌≡◌, ℕ, zero, suc, ◌+◌, ◌<◌, ◌≤◌, true, false, cond, List, [], ◌∷◌, length, None, sym, refl, ap, ◌∙◌, subst, inl, inr, ⊎_elim, arith}
 use Rattle.std.proofs.lemmas.List.{length-append}
 use Rattle.std.proofs.lemmas.Bool.{cases_Bool, cases_lt, cond-true, cond-false, cond_both}
 use Rattle.words.specs.Bits.{Bit}
 use Rattle.words.proofs.BitLaws.{bit_of_zero}
 use Rattle.frame_map.specs.Maps.{Rows}
-use Rattle.frame_map.specs.declared.row.Row.{Row}
 use Rattle.scan.specs.Frames.{Frame, size, top}
-use Rattle.scan.specs.Roots.{Held, Passes, RegisterRoot, Root, RootList, Scratch, SlotRoot, StackRoot}
+use Rattle.scan.specs.Roots.{Held, RegisterRoot, Root, RootList, Scratch, SlotRoot, StackRoot}
 use Rattle.scan.specs.Masks.{bit, codes, held, held_by, registers_by, root_codes, roots_by, stack_codes}
 use Rattle.scan.proofs.MaskLaws.{are_registers, are_slots, bit_true, is_passing, passes_as, passing_is, registers_are, slot_root_as, slots_are, true_bit}
 use Rattle.scan.proofs.Members.{In, Rises, determined, in_cases, in_left, in_member, in_right, member_in, rises_append, rises_from, rises_pairs}

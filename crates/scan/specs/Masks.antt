@@ -1,5 +1,5 @@
 -- The scan by masks, as it is computed. No promise rests on this alone: the laws tie it to the roots.
-use Rattle.std.specs.Prelude.{◌≡◌, ℕ, zero, suc, ◌+◌, ◌*◌, ◌/◌, ◌%◌, ◌^◌, Bool, cond, ◌&&◌, List, [], ◌∷◌, ◌++◌, Some, None, Option, ◌==◌, bit_and, bit_or, nat_lt}
+use Rattle.std.specs.Prelude.{ℕ, zero, suc, ◌+◌, ◌*◌, ◌/◌, ◌%◌, ◌^◌, Bool, cond, ◌&&◌, List, [], ◌∷◌, ◌++◌, Some, None, Option, ◌==◌, bit_and, bit_or, nat_lt}
 use Rattle.frame_map.specs.Maps.{Rows}
 use Rattle.frame_map.specs.Rows.{saved_slot}
 use Rattle.frame_map.specs.declared.row.Row.{Row}

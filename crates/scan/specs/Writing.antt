@@ -1,5 +1,5 @@
 -- What the scan's functions promise.
-use Rattle.std.specs.Prelude.{◌≡◌, ℕ, ◌+◌, ◌^◌, ◌<◌, ◌≤◌, List, ◌++◌, length, take, drop, Some}
+use Rattle.std.specs.Prelude.{◌≡◌, ℕ, ◌+◌, ◌^◌, ◌≤◌, List, ◌++◌, length, take, drop, Some}
 use Rattle.words.specs.Bits.{Bit}
 use Rattle.frame_map.specs.declared.row.Row.{Row}
 use Rattle.scan.specs.Roots.{Passes, SlotRoot}

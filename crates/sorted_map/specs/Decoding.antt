@@ -4,7 +4,6 @@ use Rattle.std.specs.List.{range_with_len}
 use Rattle.frame_map.specs.Maps.{Rows}
 use Rattle.frame_map.specs.Tables.{row_for}
 use Rattle.frame_map.specs.declared.row.Entry.{Entry}
-use Rattle.frame_map.specs.declared.row.Row.{Row}
 
 -- the entry that five words spell
 abbrev pub spelled : ℕ → ℕ → ℕ → ℕ → ℕ → Entry

@@ -68,7 +68,7 @@ mod tests {
         memory.write(0, 9)?;
         let after = [before, memory.read(0), memory.read(1), memory.read(2)];
         assert_eq!(rt; after, [Ok(0x0403_0201), Ok(9), Ok(0x0807_0605), PAST]);
-        assert_eq!(rt; memory.image(), &[1, 2, 3, 4, 5, 6, 7, 8]);
+        assert_eq!(rt; memory.image(), [1, 2, 3, 4, 5, 6, 7, 8].as_slice());
         Ok(())
     }
 

@@ -1,5 +1,5 @@
 -- What a test that answers a fact tells.
-use Rattle.std.proofs.Common.{◌≡◌, ℕ, Bool, true, false, eqb, MatchBool, sym, refl}
+use Rattle.std.proofs.Common.{◌≡◌, ℕ, Bool, true, false, eqb, MatchBool, refl}
 use Rattle.std.proofs.lemmas.Bool.{false≢true, eqb-true, eq-eqb}
 
 -- a test that is true exactly if P holds answers P

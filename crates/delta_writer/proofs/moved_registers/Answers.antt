@@ -1,5 +1,5 @@
-use Rattle.std.proofs.Common.{◌≡◌, ◌+◌, ◌^◌, ◌≤◌, ap, ◌∙◌, arith, pow_mono}
-use Rattle.delta_layout.specs.Codes.{flag, mask_of, moved}
+use Rattle.std.proofs.Common.{◌+◌, ◌^◌, ◌≤◌, ap, ◌∙◌, arith, pow_mono}
+use Rattle.delta_layout.specs.Codes.{mask_of, moved}
 use Rattle.delta_layout.proofs.MaskLaws.{mask_low}
 use Rattle.delta_writer.proofs.WriterLaws.{mask_begin, mask_next}
 use Rattle.delta_writer.proofs.moved_registers.Goals as goal

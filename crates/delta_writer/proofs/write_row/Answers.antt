@@ -1,4 +1,4 @@
-use Rattle.std.proofs.Common.{◌≡◌, ◌+◌, ◌-◌, take, ap, ◌∙◌, arith}
+use Rattle.std.proofs.Common.{◌≡◌, ◌-◌, take, ap, ◌∙◌, arith}
 use Rattle.delta_layout.specs.Codes.{code}
 use Rattle.delta_writer.proofs.WriterLaws.{wrote_part}
 use Rattle.delta_writer.proofs.write_row.Goals as goal

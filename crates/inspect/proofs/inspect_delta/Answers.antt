@@ -1,4 +1,4 @@
-use Rattle.std.proofs.Common.{◌≡◌, sym, ap, ◌∙◌}
+use Rattle.std.proofs.Common.{ap, ◌∙◌}
 use mathlib.Core.Path.{fun_ext}
 use Rattle.frame_map.specs.Maps.{entries_below}
 use Rattle.frame_map.proofs.Listing.{listed_table}

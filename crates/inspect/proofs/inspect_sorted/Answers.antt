@@ -1,7 +1,6 @@
-use Rattle.std.proofs.Common.{◌≡◌, sym, ap, ◌∙◌}
+use Rattle.std.proofs.Common.{ap, ◌∙◌}
 use mathlib.Core.Path.{fun_ext}
 use Rattle.frame_map.specs.Maps.{entries_below}
-use Rattle.frame_map.specs.Tables.{row_for}
 use Rattle.frame_map.proofs.Listing.{listed_table}
 use Rattle.inspect.specs.Reports.{text_of_rows}
 use Rattle.inspect.proofs.inspect_sorted.Goals as goal

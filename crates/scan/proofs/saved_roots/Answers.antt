@@ -1,6 +1,5 @@
-use Rattle.std.proofs.Common.{◌≡◌, ◌<◌, ◌≤◌, sym, ap, ◌∙◌, ⊎_elim, arith}
+use Rattle.std.proofs.Common.{sym, ap, ◌∙◌}
 use lib.Bits.{bit_or}
-use Rattle.frame_map.specs.Rows.{saved_slot}
 use Rattle.scan.specs.Masks.{saved_mask}
 use Rattle.scan.proofs.MaskLaws.{low_slot}
 use Rattle.scan.proofs.StackLaws.{saved_more, saved_none}

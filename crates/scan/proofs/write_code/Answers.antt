@@ -1,4 +1,4 @@
-use Rattle.std.proofs.Common.{◌≡◌, [], ◌∷◌, sym, arith, rules}
+use Rattle.std.proofs.Common.{[], ◌∷◌, sym, arith, rules}
 use Rattle.std.proofs.lemmas.Bool.{cond-true, cond-false}
 use Rattle.scan.proofs.WritingLaws.{wrote_as, wrote_none, wrote_one}
 use Rattle.scan.proofs.write_code.Goals as goal

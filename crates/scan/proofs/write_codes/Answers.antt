@@ -1,4 +1,4 @@
-use Rattle.std.proofs.Common.{◌≡◌, sym, arith}
+use Rattle.std.proofs.Common.{sym, arith}
 use Rattle.scan.proofs.RootLaws.{length-codes}
 use Rattle.scan.proofs.StackLaws.{codes_more, codes_none}
 use Rattle.scan.proofs.WritingLaws.{wrote_as, wrote_length, wrote_none, wrote_then}

@@ -1,8 +1,8 @@
-use Rattle.std.proofs.Common.{◌≡◌, ℕ, suc, ◌+◌, ◌<◌, ◌≤◌, ◌++◌, length, take, drop, sym, refl, ap, ◌∙◌, subst, add-one, arith}
+use Rattle.std.proofs.Common.{suc, ◌<◌, ◌≤◌, ◌++◌, length, take, drop, sym, ap, ◌∙◌, subst, add-one, arith}
 use Rattle.delta_layout.specs.Codes.{code}
-use Rattle.delta_image.specs.Images.{start_in, GoodFront, BadRow}
+use Rattle.delta_image.specs.Images.{start_in, BadRow}
 use Rattle.delta_image.proofs.Coded.{coding}
-use Rattle.delta_map.proofs.BucketLaws.{Here, here_first, here_done, here_more, goes_on, unread, too_many, other_bucket}
+use Rattle.delta_map.proofs.BucketLaws.{here_first, here_done, here_more, goes_on, unread, too_many, other_bucket}
 use Rattle.delta_map.proofs.check.check_bucket.Goals as goal
 
 pub loop-reader-init : goal.loop-reader-init

@@ -1,4 +1,4 @@
-use Rattle.std.proofs.Common.{◌≡◌, ℕ, suc, ◌+◌, ◌<◌, ◌≤◌, ◌++◌, length, take, drop, sym, refl, ap, ◌∙◌, subst, add-one, arith}
+use Rattle.std.proofs.Common.{suc, ◌<◌, ◌≤◌, ◌++◌, length, take, drop, sym, ap, ◌∙◌, add-one, arith}
 use Rattle.delta_layout.specs.Codes.{code}
 use Rattle.delta_image.specs.Buckets.{bucket_of}
 use Rattle.delta_image.specs.Images.{start_in}

@@ -1,4 +1,4 @@
-use Rattle.std.proofs.Common.{◌≡◌, suc, ◌-◌, List, ◌++◌, take}
+use Rattle.std.proofs.Common.{◌≡◌, suc, ◌-◌, take}
 use Rattle.delta_image.specs.Buckets.{bucket_of}
 use Rattle.delta_image.specs.Images.{start_in}
 use Rattle.delta_map.proofs.FindLaws.{Seeking}

@@ -1,6 +1,6 @@
-use Rattle.std.proofs.Common.{◌≡◌, ℕ, suc, ◌+◌, ◌<◌, ◌≤◌, sym, refl, ap, ◌∙◌, subst, add-one, arith}
+use Rattle.std.proofs.Common.{◌≡◌, sym, refl, ap, ◌∙◌, subst, add-one, arith}
 use Rattle.delta_image.specs.Images.{start_in, GoodStarts}
-use Rattle.delta_map.proofs.StartLaws.{Before, starts_none, starts_more, starts_next}
+use Rattle.delta_map.proofs.StartLaws.{starts_none, starts_more, starts_next}
 use Rattle.delta_map.proofs.starts.check_starts.Goals as goal
 
 pub loop-k-init : goal.loop-k-init

@@ -1,4 +1,3 @@
-use Rattle.std.proofs.Common.{◌≤◌}
 use Rattle.delta_image.specs.Images.{GoodStarts}
 use Rattle.delta_map.proofs.StartLaws.{Before}
 use Rattle.delta_map.proofs.starts.check_starts.Given as goal

@@ -1,4 +1,4 @@
-use Rattle.std.proofs.Common.{◌≡◌, [], ◌∷◌, replicate, ap, ◌∙◌, arith}
+use Rattle.std.proofs.Common.{[], ◌∷◌, replicate, ap, ◌∙◌, arith}
 use Rattle.delta_layout.specs.Codes.{changed, step_code, code}
 use Rattle.delta_writer.specs.Writing.{Added}
 use Rattle.delta_layout.proofs.CodeLaws.{changed-length, resized-length, step-length, code-length}

@@ -1,4 +1,4 @@
-use Rattle.std.proofs.Common.{◌≡◌, [], ◌∷◌, ◌++◌, Some, None, vec_items, sym, refl, ap, ◌∙◌, append-nil, arith}
+use Rattle.std.proofs.Common.{◌≡◌, [], ◌∷◌, ◌++◌, vec_items, sym, refl, ap, ◌∙◌, append-nil, arith}
 use Rattle.frame_map.specs.Maps.{Rows, entry_of, entries_below}
 use Rattle.frame_map.proofs.MapLaws.{entries_none, entries_more}
 use Rattle.frame_map.proofs.map.entries.Goals as goal

@@ -1,4 +1,4 @@
-use Rattle.std.proofs.Common.{◌≡◌, ◌+◌, ◌*◌, ◌^◌, ◌<◌, get_or, sym, ap, ◌∙◌, subst, arith}
+use Rattle.std.proofs.Common.{◌≡◌, ◌+◌, ◌*◌, ◌<◌, get_or, sym, subst}
 use Rattle.words.proofs.TestLaws.{when_same}
 use Rattle.frame_map.specs.Rows.{Lawful}
 use Rattle.sorted_map.specs.Checking.{Follows, five}

@@ -1,4 +1,4 @@
-use Rattle.std.proofs.Common.{◌≡◌, subst}
+use Rattle.std.proofs.Common.{subst}
 use Rattle.std.proofs.lemmas.Result.{err_from_is_err_and}
 use Rattle.sorted_map.specs.Layout.{Means, RefusedImage}
 use Rattle.sorted_map.specs.Meaning.{MadeFrom}

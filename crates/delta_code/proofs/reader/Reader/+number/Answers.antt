@@ -1,6 +1,4 @@
-use Rattle.std.proofs.Common.{◌≡◌, ℕ, ◌+◌, ◌-◌, ◌*◌, ◌^◌, ◌<◌, Some, None, refl, ap, arith, rules}
-use Rattle.delta_layout.specs.Parsing.{and_then, byte_in, number_in}
-use Rattle.delta_code.specs.Reading.{Took}
+use Rattle.std.proofs.Common.{ℕ, ◌+◌, ◌-◌, ◌*◌, ◌^◌, ◌<◌, Some, refl, arith, rules}
 use Rattle.delta_code.proofs.ReaderLaws.{took_none, took_then, took_as, on_number, number_none, number_more, number_small, number_fits}
 use Rattle.delta_code.proofs.reader.Reader.+number.Goals as goal
 

@@ -1,6 +1,5 @@
-use Rattle.std.proofs.Common.{◌≡◌, ◌<◌, Some, refl, subst, arith, rules}
-use Rattle.delta_layout.specs.Parsing.{stands, step_in}
-use Rattle.delta_code.specs.Reading.{Took}
+use Rattle.std.proofs.Common.{refl}
+use Rattle.delta_layout.specs.Parsing.{step_in}
 use Rattle.delta_code.proofs.ReaderLaws.{took_here, took_none, took_then, took_as, on_flag, no_flag, on_flags, on_point, on_row, entry_is, flags_high, flags_low, point_high, point_low}
 use Rattle.delta_code.proofs.reader.Reader.entry.Goals as goal
 

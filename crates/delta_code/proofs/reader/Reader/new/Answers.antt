@@ -1,4 +1,4 @@
-use Rattle.std.proofs.Common.{◌≡◌, ◌-◌, min, length, take, refl, ap, ◌∙◌, arith, rules}
+use Rattle.std.proofs.Common.{◌-◌, refl, arith}
 use Rattle.delta_code.proofs.ReaderLaws.{take_clamped}
 use Rattle.delta_code.proofs.reader.Reader.new.Goals as goal
 

@@ -1,7 +1,5 @@
-use Rattle.std.proofs.Common.{◌≡◌, ◌<◌, Some, refl, subst, arith, rules}
-use Rattle.frame_map.specs.declared.row.Row.{Row}
-use Rattle.delta_layout.specs.Parsing.{stands, changed_in, size_in, saved_in}
-use Rattle.delta_code.specs.Reading.{Took}
+use Rattle.std.proofs.Common.{◌<◌, Some, refl, arith, rules}
+use Rattle.delta_layout.specs.Parsing.{changed_in, size_in, saved_in}
 use Rattle.delta_code.proofs.ReaderLaws.{took_here, took_as, on_flag, no_flag, row_is, behind_size, behind_slots, behind_registers, behind_untouched, changed_small}
 use Rattle.delta_code.proofs.reader.Reader.row.Goals as goal
 

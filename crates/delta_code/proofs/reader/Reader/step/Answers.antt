@@ -1,4 +1,4 @@
-use Rattle.std.proofs.Common.{◌<◌, arith}
+use Rattle.std.proofs.Common.{arith}
 use Rattle.delta_code.proofs.ReaderLaws.{took_here, took_none, took_then, took_as, on_step, step_narrow, step_wide, step_low, step_high, number_small}
 use Rattle.delta_code.proofs.reader.Reader.step.Goals as goal
 

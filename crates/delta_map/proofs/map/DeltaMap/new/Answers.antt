@@ -1,4 +1,4 @@
-use Rattle.std.proofs.Common.{◌≡◌, vec_items, refl, subst, lit<}
+use Rattle.std.proofs.Common.{refl, subst, lit<}
 use Rattle.delta_map.specs.Faults.{HasDeltaRows}
 use Rattle.delta_map.proofs.MapLaws.{rows_are}
 use Rattle.delta_map.proofs.map.DeltaMap.new.Goals as goal

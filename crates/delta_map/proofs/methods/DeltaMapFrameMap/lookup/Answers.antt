@@ -1,7 +1,7 @@
-use Rattle.std.proofs.Common.{◌≡◌, vec_items, sym, refl, ap, ◌∙◌, subst, arith, rules}
+use Rattle.std.proofs.Common.{sym, refl, ap, ◌∙◌, subst, arith}
 use Rattle.delta_image.specs.Buckets.{DeltaMeans}
 use Rattle.delta_map.specs.Meaning.{entries_of, rows_of}
-use Rattle.delta_map.proofs.MapLaws.{entries_mean, rows_are, rows_same, rows_past}
+use Rattle.delta_map.proofs.MapLaws.{entries_mean, rows_same, rows_past}
 use Rattle.delta_map.proofs.methods.DeltaMapFrameMap.lookup.Goals as goal
 
 pub find-requires : goal.find-requires
