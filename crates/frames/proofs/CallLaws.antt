@@ -1,23 +1,22 @@
 -- Calls that are accepted: the machine stands for the next model.
-use Rattle.std.proofs.Common.{◌≡◌, ℕ, zero, suc, ◌+◌, ◌-◌, ◌%◌, ◌^◌, ◌<◌, ◌≤◌, max, ◌⊎◌, List, [], ◌∷◌, ◌++◌, length, get_or, take, drop, set, replicate, Some, sym, refl, ap, ◌∙◌, subst, inl, inr, ⊎_elim, arith}
+use Rattle.std.proofs.Common.{◌≡◌, ℕ, zero, suc, ◌+◌, ◌-◌, ◌%◌, ◌^◌, ◌<◌, ◌≤◌, List, [], ◌∷◌, ◌++◌, length, get_or, take, drop, set, Some, sym, refl, ap, ◌∙◌, subst, arith}
 use Rattle.std.proofs.lemmas.List.{get_or-take, get_or-append_right, length-drop, take-append-drop}
 use Rattle.frame_map.specs.Maps.{Rows}
 use Rattle.frame_map.specs.declared.row.Row.{Row}
 use Rattle.refusal.specs.Numbers.{number_of}
 use Rattle.refusal.specs.declared.Refusal.{Refusal}
 use Rattle.scan.specs.Frames.{Frame, size, top}
-use Rattle.scan.proofs.StackLaws.{top_none, top-cons}
-use Rattle.frames.specs.Tables.{records, Newest, DroppedAbove}
-use Rattle.frames.specs.Models.{running, Model, frames, newest}
+use Rattle.scan.proofs.StackLaws.{top-cons}
+use Rattle.frames.specs.Tables.{records, Newest}
+use Rattle.frames.specs.Models.{Model, frames, newest}
 use Rattle.frames.specs.Layouts.{layout, frame_words}
-use Rattle.frames.specs.Reasons.{HandlerOf, FairStart, FairSize, Reason, Clear, First, start_reasons, leave_reasons, try_reasons, untry_reasons, raise_reasons, slot_reasons, register_reasons}
-use Rattle.frames.specs.Changes.{started, left, tried, untried, raised, onto, with_handlers, with_slot, with_register, top_handler, other_handlers}
-use Rattle.frames.specs.Falling.{Fell, NewestOf}
-use Rattle.frames.specs.Fresh.{Fresh}
-use Rattle.frames.specs.Standing.{Stands, Placed, Laid, Handled, Marked, Recorded, Waiting, Describes, no_handler, no_marker, no_record, record_of}
+use Rattle.frames.specs.Reasons.{HandlerOf, Reason, Clear, First, leave_reasons, try_reasons, untry_reasons, raise_reasons, slot_reasons, register_reasons}
+use Rattle.frames.specs.Changes.{left, tried, untried, raised, onto, with_handlers, with_slot, with_register, top_handler, other_handlers}
+use Rattle.frames.specs.Falling.{Fell}
+use Rattle.frames.specs.Standing.{Stands, no_handler}
 use Rattle.frames.specs.Views.{View, view, StandsFor, after, cost, Accepted, Refused}
 use Rattle.frames.specs.declared.records.Handler.{Handler}
-use Rattle.frames.specs.declared.state.Phase.TheVariants.{Unstarted, Running}
+use Rattle.frames.specs.declared.state.Phase.TheVariants.{Running}
 use Rattle.frames.specs.declared.state.State.{State}
 use Rattle.frames.proofs.Descents.{fell_stands}
 use Rattle.frames.proofs.HandlerLaws.{newest_is, handlers_below, others_below, others_inside, others_ordered, more_inside, more_ordered}

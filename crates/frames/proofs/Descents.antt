@@ -1,15 +1,15 @@
 -- Frames fewer: the machine stands for the model without them.
-use Rattle.std.proofs.Common.{◌≡◌, ℕ, zero, suc, ◌+◌, ◌-◌, ◌*◌, ◌/◌, ◌%◌, ◌<◌, ◌≤◌, min, ◌⊎◌, List, [], ◌∷◌, ◌++◌, length, get_or, take, drop, set, sym, refl, ap, ◌∙◌, subst, inl, inr, ⊎_elim, append_assoc, le-div_iff_mul-le, div-mul-le_self, arith}
+use Rattle.std.proofs.Common.{◌≡◌, ℕ, suc, ◌+◌, ◌*◌, ◌/◌, ◌<◌, ◌≤◌, min, List, ◌∷◌, ◌++◌, length, get_or, take, sym, ap, ◌∙◌, subst, ⊎_elim, append_assoc, le-div_iff_mul-le, div-mul-le_self, arith}
 use Rattle.std.proofs.lemmas.List.{length-append, take-take, get_or_default}
 use Rattle.std.proofs.lemmas.Bool.{cases_lt}
 use Rattle.frame_map.specs.Maps.{Rows}
-use Rattle.scan.specs.Frames.{Frame, size, top}
-use Rattle.frames.specs.Tables.{records, DroppedAbove}
-use Rattle.frames.specs.Models.{Model, frames, newest}
+use Rattle.scan.specs.Frames.{Frame, top}
+use Rattle.frames.specs.Tables.{records}
+use Rattle.frames.specs.Models.{Model, frames}
 use Rattle.frames.specs.Layouts.{layout}
 use Rattle.frames.specs.Changes.{onto}
 use Rattle.frames.specs.Falling.{Fell}
-use Rattle.frames.specs.Standing.{Stands, Placed, Laid, Handled, Marked, Recorded, Waiting, no_handler, no_marker, no_record, record_of}
+use Rattle.frames.specs.Standing.{Stands, Waiting, no_handler, no_marker, no_record}
 use Rattle.frames.specs.declared.records.Handler.{Handler}
 use Rattle.frames.specs.declared.records.Marker.{Marker}
 use Rattle.frames.specs.declared.records.Record.{Record}

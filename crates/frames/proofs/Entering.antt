@@ -1,21 +1,21 @@
 -- A frame more: the machine stands for the model with it.
-use Rattle.std.proofs.Common.{◌≡◌, ℕ, zero, suc, ◌+◌, ◌-◌, ◌*◌, ◌/◌, ◌%◌, ◌^◌, ◌<◌, ◌≤◌, min, Bool, true, false, cond, ◌&&◌, eqb, ltb, leb, ◌⊎◌, List, [], ◌∷◌, ◌++◌, length, get_or, take, drop, set, replicate, Some, sym, refl, ap, ◌∙◌, subst, inl, inr, ⊎_elim, append_assoc, add-one, arith}
-use Rattle.std.proofs.lemmas.List.{length-append, length-take-le, length-drop, length-replicate, take_at, drop_at, get_or-set_same, get_or-set_other, append-nil}
+use Rattle.std.proofs.Common.{◌≡◌, ℕ, suc, ◌+◌, ◌-◌, ◌*◌, ◌%◌, ◌^◌, ◌<◌, ◌≤◌, false, cond, ◌&&◌, eqb, ltb, leb, List, ◌∷◌, ◌++◌, length, get_or, take, drop, set, replicate, Some, sym, ap, ◌∙◌, subst, ⊎_elim, append_assoc, add-one, arith}
+use Rattle.std.proofs.lemmas.List.{length-append, length-take-le, length-drop, length-replicate, take_at, drop_at, get_or-set_same, get_or-set_other}
 use Rattle.std.proofs.lemmas.Bool.{lt-leb, and_right}
 use Rattle.frame_map.specs.Maps.{Rows}
 use Rattle.frame_map.specs.declared.row.Row.{Row}
 use Rattle.scan.specs.Frames.{Frame, size, top}
 use Rattle.frames.specs.Tables.{records}
-use Rattle.frames.specs.Models.{Model, frames, newest}
+use Rattle.frames.specs.Models.{Model, frames}
 use Rattle.frames.specs.Layouts.{marked, marker, frame_words, layout}
 use Rattle.frames.specs.Changes.{entered}
-use Rattle.frames.specs.Standing.{Stands, Placed, Laid, Handled, Marked, Recorded, Waiting, Describes, no_handler, no_marker, no_record, record_of}
+use Rattle.frames.specs.Standing.{Stands, Describes, no_marker, no_record, record_of}
 use Rattle.frames.specs.Reasons.{enter_reasons}
 use Rattle.frames.specs.Views.{View, view, StandsFor, Accepted}
 use Rattle.frames.specs.declared.state.Phase.TheVariants.{Running}
 use Rattle.frames.specs.declared.state.State.{State}
 use Rattle.frames.proofs.ViewLaws.{runs, after_one, fit_clear, fit_describes}
-use Rattle.frames.proofs.LayoutLaws.{top-cons, top_part, length-layout, layout-cons}
+use Rattle.frames.proofs.LayoutLaws.{top-cons, layout-cons}
 use Rattle.frames.proofs.StackLaws.{split_cons, waiting-cons}
 
 -- all but the frames is as it was

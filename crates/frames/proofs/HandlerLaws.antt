@@ -1,10 +1,9 @@
 -- Laws of handlers: the newest tells whether the running frame has one, and handlers of older frames come first.
-use Rattle.std.proofs.Common.{◌≡◌, ℕ, zero, suc, ◌+◌, ◌-◌, ◌<◌, ◌≤◌, Bool, true, false, eqb, ◌⊎◌, List, [], ◌∷◌, ◌++◌, length, get_or, take, sym, refl, ap, ◌∙◌, subst, inl, inr, ⊎_elim, arith}
+use Rattle.std.proofs.Common.{◌≡◌, ℕ, suc, ◌+◌, ◌-◌, ◌<◌, ◌≤◌, Bool, true, false, eqb, List, [], ◌∷◌, ◌++◌, length, get_or, take, sym, refl, ap, ◌∙◌, subst, ⊎_elim, arith}
 use Rattle.std.proofs.lemmas.List.{length_push, length-take-le, get_or_at, get_or-take, get_or_push, get_or_append_left, take_at, take_all}
 use Rattle.std.proofs.lemmas.Bool.{eqb-true, eqb-false, cases_eq, cases_lt}
-use Rattle.frame_map.specs.Maps.{Rows}
-use Rattle.frames.specs.Tables.{records, Newest}
-use Rattle.frames.specs.Models.{Model, frames, newest}
+use Rattle.frames.specs.Tables.{Newest}
+use Rattle.frames.specs.Models.{Model, newest}
 use Rattle.frames.specs.Reasons.{HandlerOf}
 use Rattle.frames.specs.Changes.{top_handler, other_handlers}
 use Rattle.frames.specs.Falling.{NewestOf}

@@ -1,5 +1,5 @@
 -- Laws of words that are written one behind the other.
-use Rattle.std.proofs.Common.{◌≡◌, ℕ, zero, suc, ◌+◌, ◌-◌, ◌<◌, ◌≤◌, List, [], ◌∷◌, ◌++◌, length, get_or, take, drop, set, replicate, Ok, Err, Result, sym, refl, ap, ◌∙◌, subst, append_assoc, add_assoc, arith, MatchResult}
+use Rattle.std.proofs.Common.{◌≡◌, ℕ, zero, suc, ◌+◌, ◌-◌, ◌<◌, ◌≤◌, List, [], ◌∷◌, ◌++◌, length, get_or, take, drop, set, replicate, Ok, Err, Result, sym, ap, ◌∙◌, append_assoc, add_assoc, arith, MatchResult}
 use Rattle.refusal.specs.declared.Refusal.{Refusal}
 use Rattle.stack_memory.specs.Promises.{Changed, Unchanged}
 use Rattle.std.proofs.lemmas.List.{length-take-le, length-append, length-drop, length-replicate, set_at, drop_more, replicate_more, take-append-drop}

@@ -1,6 +1,6 @@
 -- Other handlers, other registers, other words in slots: the machine stands for the model with them.
-use Rattle.std.proofs.Common.{◌≡◌, ℕ, zero, suc, ◌+◌, ◌-◌, ◌*◌, ◌/◌, ◌%◌, ◌<◌, ◌≤◌, min, cond, ◌⊎◌, List, [], ◌∷◌, ◌++◌, length, get_or, take, drop, set, Some, None, Option, sym, refl, ap, ◌∙◌, subst, inl, inr, ⊎_elim, append_assoc, arith}
-use Rattle.std.proofs.lemmas.List.{length-append, length-set, get_or_default, set-append_right, drop-set-lt}
+use Rattle.std.proofs.Common.{◌≡◌, ℕ, zero, suc, ◌+◌, ◌-◌, ◌*◌, ◌<◌, ◌≤◌, cond, List, [], ◌∷◌, ◌++◌, length, get_or, take, drop, set, Some, None, Option, sym, refl, ap, ◌∙◌, subst, arith}
+use Rattle.std.proofs.lemmas.List.{length-set, set-append_right, drop-set-lt}
 use Rattle.frame_map.specs.Maps.{Rows}
 use Rattle.frame_map.specs.declared.row.Row.{Row}
 use Rattle.scan.specs.Frames.{Frame, size, top}
@@ -8,9 +8,9 @@ use Rattle.scan.specs.Masks.{held, roots_by}
 use Rattle.scan.proofs.StackLaws.{top-cons}
 use Rattle.frames.specs.Tables.{records}
 use Rattle.frames.specs.Models.{Model, frames, newest}
-use Rattle.frames.specs.Layouts.{marked, marker, frame_words, layout}
+use Rattle.frames.specs.Layouts.{marked, marker, layout}
 use Rattle.frames.specs.Changes.{with_handlers, with_slot, with_register}
-use Rattle.frames.specs.Standing.{Stands, Placed, Laid, Handled, Marked, Recorded, Waiting, no_handler, no_marker, no_record, record_of}
+use Rattle.frames.specs.Standing.{Stands, no_handler, no_marker, no_record, record_of}
 use Rattle.frames.specs.declared.records.Handler.{Handler}
 use Rattle.frames.specs.declared.state.State.{State}
 use Rattle.frames.proofs.Alikes.{Alike, alike_same, alike_length, alike_top, alike_held, alike_part, alike_waiting}

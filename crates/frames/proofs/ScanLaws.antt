@@ -1,15 +1,15 @@
 -- What a scan learns, frame by frame.
-use Rattle.std.proofs.Common.{◌≡◌, ℕ, zero, suc, ◌+◌, ◌-◌, ◌*◌, ◌/◌, ◌%◌, ◌<◌, ◌≤◌, min, ◌⊎◌, List, [], ◌∷◌, ◌++◌, length, get_or, take, drop, Some, None, Option, sym, refl, ap, ◌∙◌, subst, inl, inr, ⊎_elim, append_assoc, arith}
-use Rattle.std.proofs.lemmas.List.{length-append, length_push, length-take-le, get_or_at, get_or_append_left, get_or_push, get_or-take, ext_get_or, nil_from_length}
+use Rattle.std.proofs.Common.{◌≡◌, ℕ, ◌-◌, ◌<◌, ◌≤◌, List, [], ◌∷◌, ◌++◌, length, get_or, take, Some, None, Option, sym, refl, ap, ◌∙◌, subst, ⊎_elim, append_assoc, arith}
+use Rattle.std.proofs.lemmas.List.{length-append, length_push, length-take-le, get_or_append_left, get_or_push, get_or-take, ext_get_or, nil_from_length}
 use Rattle.std.proofs.lemmas.Bool.{cases_eq}
 use Rattle.frame_map.specs.Maps.{Rows}
 use Rattle.frame_map.specs.declared.row.Row.{Row}
-use Rattle.scan.specs.Frames.{Frame, size, top}
+use Rattle.scan.specs.Frames.{Frame, size}
 use Rattle.scan.specs.Masks.{held, held_by, roots_by}
 use Rattle.scan.proofs.StackLaws.{held_none, held_cons}
 use Rattle.frames.specs.Tables.{records}
-use Rattle.frames.specs.Models.{Model, frames, newest}
-use Rattle.frames.specs.Standing.{Stands, Kept, Placed, Laid, Marked, Recorded, Waiting, Describes, no_marker, no_record, record_of, scans}
+use Rattle.frames.specs.Models.{Model, frames}
+use Rattle.frames.specs.Standing.{Stands, Kept, Waiting, Describes, no_marker, no_record, record_of, scans}
 use Rattle.frames.specs.Learning.{SameButRecords, point_of}
 use Rattle.frames.specs.declared.records.Record.{Record}
 use Rattle.frames.specs.declared.state.State.{State}

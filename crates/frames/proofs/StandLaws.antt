@@ -1,13 +1,12 @@
 -- What a machine that stands for a model tells of a frame.
-use Rattle.std.proofs.Common.{◌≡◌, ℕ, zero, suc, ◌+◌, ◌-◌, ◌*◌, ◌/◌, ◌%◌, ◌^◌, ◌<◌, ◌≤◌, min, Bool, true, false, cond, ◌&&◌, eqb, ltb, leb, ◌⊎◌, List, [], ◌∷◌, ◌++◌, length, get_or, take, drop, set, sym, refl, ap, ◌∙◌, subst, ⊎_elim, append_assoc, div-add-mod', le-div_iff_mul-le, zero-mul, div-mul-le_self, arith}
-use Rattle.std.proofs.lemmas.Nat.{div_below}
+use Rattle.std.proofs.Common.{◌≡◌, ℕ, suc, ◌+◌, ◌-◌, ◌*◌, ◌/◌, ◌%◌, ◌<◌, ◌≤◌, Bool, true, false, cond, ◌&&◌, eqb, ltb, leb, List, [], ◌∷◌, ◌++◌, length, get_or, sym, refl, ap, ◌∙◌, ⊎_elim, append_assoc, div-add-mod', le-div_iff_mul-le, zero-mul, div-mul-le_self, arith}
 use Rattle.std.proofs.lemmas.List.{length-append, get_or-take}
 use Rattle.std.proofs.lemmas.Bool.{cases_eq, leb-true, ltb-true, eqb-true, false≢true}
 use Rattle.frame_map.specs.Maps.{Rows}
 use Rattle.scan.specs.Frames.{Frame, size, top}
 use Rattle.frames.specs.Tables.{records}
-use Rattle.frames.specs.Models.{Model, frames, newest}
-use Rattle.frames.specs.Layouts.{marked, marker, frame_words, layout}
+use Rattle.frames.specs.Models.{Model, frames}
+use Rattle.frames.specs.Layouts.{marked, marker, layout}
 use Rattle.frames.specs.Standing.{Stands, Kept, Laid, Marked, no_marker}
 use Rattle.frames.specs.declared.records.Marker.{Marker}
 use Rattle.frames.specs.declared.state.State.{State}

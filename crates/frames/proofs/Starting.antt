@@ -1,17 +1,17 @@
 -- A fresh start: the machine stands for the model with one frame.
-use Rattle.std.proofs.Common.{◌≡◌, ℕ, zero, suc, ◌+◌, ◌-◌, ◌*◌, ◌/◌, ◌<◌, ◌≤◌, max, ◌⊎◌, List, [], ◌∷◌, ◌++◌, length, get_or, take, drop, set, replicate, sym, refl, ap, ◌∙◌, subst, inl, inr, ⊎_elim, suc-mul, arith}
+use Rattle.std.proofs.Common.{◌≡◌, ℕ, suc, ◌+◌, ◌-◌, ◌*◌, ◌≤◌, List, [], ◌∷◌, ◌++◌, length, get_or, take, drop, set, replicate, sym, refl, ap, ◌∙◌, subst, ⊎_elim, suc-mul, arith}
 use native.Mathlib.Nat.{zero-div}
 use Rattle.std.proofs.lemmas.List.{length-append, length-replicate, length-drop, take_at, drop_at, get_or-set_same, get_or-set_other, get_or-replicate, nil_from_length}
 use Rattle.frame_map.specs.Maps.{Rows}
 use Rattle.scan.specs.Frames.{Frame, size, top}
 use Rattle.scan.proofs.StackLaws.{top_none, top-cons}
 use Rattle.frames.specs.Tables.{records}
-use Rattle.frames.specs.Models.{running, Model, frames, newest}
+use Rattle.frames.specs.Models.{frames}
 use Rattle.frames.specs.Layouts.{layout}
 use Rattle.frames.specs.Reasons.{FairStart, start_reasons}
 use Rattle.frames.specs.Changes.{started}
 use Rattle.frames.specs.Fresh.{Fresh}
-use Rattle.frames.specs.Standing.{Stands, Waiting, no_handler, no_marker, no_record, record_of}
+use Rattle.frames.specs.Standing.{Stands, Waiting}
 use Rattle.frames.specs.Views.{View, view, Accepted}
 use Rattle.frames.specs.declared.state.Phase.TheVariants.{Unstarted, Running}
 use Rattle.frames.specs.declared.state.State.{State}

@@ -1,18 +1,16 @@
 -- What calls share: phases, tops, refusals that change nothing, and one lookup.
-use Rattle.std.proofs.Common.{◌≡◌, ℕ, zero, suc, ◌+◌, ◌-◌, ◌%◌, ◌^◌, ◌<◌, ◌≤◌, ◌⊎◌, List, [], ◌∷◌, ◌++◌, length, get_or, drop, Some, None, Option, sym, refl, ap, ◌∙◌, subst, inl, inr, arith}
+use Rattle.std.proofs.Common.{◌≡◌, ℕ, suc, ◌+◌, ◌-◌, ◌%◌, ◌^◌, List, [], ◌∷◌, length, get_or, Some, None, Option, sym, refl, ap, ◌∙◌, subst, inl, inr, arith}
 use Rattle.frame_map.specs.Maps.{Rows}
 use Rattle.frame_map.specs.declared.row.Row.{Row}
 use Rattle.refusal.specs.Numbers.{number_of}
 use Rattle.refusal.specs.declared.Refusal.{Refusal}
-use Rattle.refusal.specs.declared.Refusal.TheVariants.{NoRow, OtherSize}
-use Rattle.scan.specs.Frames.{Frame, size, top}
+use Rattle.scan.specs.Frames.{size, top}
 use Rattle.scan.proofs.StackLaws.{top-cons}
-use Rattle.frames.specs.Models.{Stage, running, opened, carried, Model, frames, newest}
+use Rattle.frames.specs.Models.{Stage, running, opened, carried, Model, frames}
 use Rattle.frames.specs.Reasons.{Reason, because, First, Clear, NotRunning, Rowless, Misfit}
-use Rattle.frames.specs.Standing.{Stands, Laid, phase_of, Describes, Unfitting}
-use Rattle.frames.specs.Views.{View, view, StandsFor, after, Keeps, Accepted, Refused, cost}
-use Rattle.frames.specs.declared.state.Phase.{Phase}
-use Rattle.frames.specs.declared.state.Phase.TheVariants.{Running, Opened, Carried}
+use Rattle.frames.specs.Standing.{Stands, phase_of, Describes, Unfitting}
+use Rattle.frames.specs.Views.{View, view, StandsFor, after, Refused, cost}
+use Rattle.frames.specs.declared.state.Phase.TheVariants.{Running}
 use Rattle.frames.specs.declared.state.State.{State}
 
 pub after_none : (n : ℕ) → after n 0 ≡ n

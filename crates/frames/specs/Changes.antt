@@ -1,5 +1,5 @@
 -- What an accepted call makes of the model.
-use Rattle.std.specs.Prelude.{◌≡◌, ℕ, ◌-◌, min, List, [], ◌∷◌, ◌++◌, length, take, drop, replicate, slice_index_or, slice_set}
+use Rattle.std.specs.Prelude.{ℕ, ◌-◌, min, List, [], ◌∷◌, ◌++◌, length, take, drop, replicate, slice_index_or, slice_set}
 use Rattle.frame_map.specs.Maps.{Rows}
 use Rattle.scan.specs.Frames.{Frame}
 use Rattle.frames.specs.Models.{running, Model, frames, newest}

@@ -1,5 +1,5 @@
 -- The state of a machine with one frame and empty tables.
-use Rattle.std.specs.Prelude.{◌≡◌, ℕ, max, List, [], replicate, slice_set}
+use Rattle.std.specs.Prelude.{◌≡◌, ℕ, max, [], replicate, slice_set}
 use Rattle.frames.specs.Tables.{records}
 use Rattle.frames.specs.declared.state.Phase.{Phase}
 use Rattle.frames.specs.declared.state.State.{State}

@@ -1,5 +1,5 @@
 -- The model of a machine: what it holds in the script's eyes, with no marker and no table.
-use Rattle.std.specs.Prelude.{◌≡◌, ℕ, List, [], ◌∷◌, length}
+use Rattle.std.specs.Prelude.{ℕ, List, ◌∷◌, length}
 use Rattle.frame_map.specs.Maps.{Rows}
 use Rattle.scan.specs.Frames.{Frame}
 use Rattle.frames.specs.declared.records.Handler.{Handler}

@@ -1,8 +1,8 @@
 -- Why a call says no, in the model's words. Reasons are listed by rising number: the first that stands is told, and a call is accepted exactly if none does.
-use Rattle.std.specs.Prelude.{◌≡◌, ℕ, suc, ◌+◌, ◌<◌, ◌≤◌, ◌⊎◌, List, [], ◌∷◌, length, Some, None, Option, ◌≢◌, slice_index_or}
+use Rattle.std.specs.Prelude.{◌≡◌, ℕ, ◌+◌, ◌<◌, ◌≤◌, ◌⊎◌, List, [], ◌∷◌, length, Some, None, Option, ◌≢◌, slice_index_or}
 use Rattle.frame_map.specs.declared.row.Row.{Row}
 use Rattle.scan.specs.Frames.{size, top}
-use Rattle.frames.specs.Models.{Stage, running, Model, frames, newest}
+use Rattle.frames.specs.Models.{running, Model, frames, newest}
 use Rattle.frames.specs.Standing.{no_handler}
 use Rattle.frames.specs.declared.state.Phase.{Phase}
 use Rattle.frames.specs.declared.state.Phase.TheVariants.{Unstarted}

@@ -1,11 +1,11 @@
 -- When a machine stands for a model.
-use Rattle.std.specs.Prelude.{◌≡◌, ℕ, zero, suc, ◌+◌, ◌*◌, ◌/◌, ◌%◌, ◌^◌, ◌<◌, ◌≤◌, List, [], ◌∷◌, ◌++◌, length, get_or, take, Some, None, Option, Result, MatchResult, ◌≢◌, slice_index, slice_index_or}
+use Rattle.std.specs.Prelude.{◌≡◌, ℕ, suc, ◌+◌, ◌*◌, ◌/◌, ◌%◌, ◌^◌, ◌<◌, ◌≤◌, List, [], ◌∷◌, ◌++◌, length, get_or, take, Some, None, Option, Result, MatchResult, ◌≢◌, slice_index, slice_index_or}
 use Rattle.frame_map.specs.Maps.{Rows}
 use Rattle.frame_map.specs.declared.row.Row.{Row}
 use Rattle.refusal.specs.declared.Refusal.{Refusal}
 use Rattle.refusal.specs.declared.Refusal.TheVariants.{NoRow, OtherSize}
 use Rattle.scan.specs.Frames.{Frame, size, top}
-use Rattle.scan.specs.Masks.{held, held_by, roots_by}
+use Rattle.scan.specs.Masks.{held, roots_by}
 use Rattle.frames.specs.Tables.{records}
 use Rattle.frames.specs.Models.{Stage, running, opened, carried, Model, frames, newest}
 use Rattle.frames.specs.Layouts.{layout}

@@ -1,5 +1,5 @@
 -- What holds while waiting frames are decoded.
-use Rattle.std.proofs.Common.{◌≡◌, ℕ, suc, ◌+◌, ◌-◌, ◌%◌, ◌^◌, ◌<◌, ◌≤◌, ◌⊎◌, List, [], ◌∷◌, ◌++◌, length, take, Some, None, Option, sym, refl, ap, ◌∙◌, subst, ⊎_elim, append_assoc, arith}
+use Rattle.std.proofs.Common.{◌≡◌, ℕ, suc, ◌+◌, ◌-◌, ◌%◌, ◌^◌, ◌<◌, ◌≤◌, List, [], ◌∷◌, ◌++◌, length, take, Some, None, Option, sym, refl, ap, ◌∙◌, subst, append_assoc, arith}
 use Rattle.frame_map.specs.Maps.{Rows}
 use Rattle.scan.specs.Frames.{Frame}
 use Rattle.scan.specs.Masks.{held}
@@ -12,9 +12,8 @@ use Rattle.frames.specs.declared.records.Record.{Record}
 use Rattle.frames.specs.declared.state.State.{State}
 use Rattle.frames.proofs.ScanLaws.{length-scans, scans-cons, known_scans, kept_same}
 use Rattle.frames.proofs.StackLaws.{frame_number}
-use Rattle.frames.proofs.StandLaws.{kept_of}
-use Rattle.frames.proofs.ViewLaws.{after_none, after_more}
-use Rattle.listing.specs.Decoding.{DecodedFrame, DecodedWaiting}
+use Rattle.frames.proofs.ViewLaws.{after_more}
+use Rattle.listing.specs.Decoding.{DecodedFrame}
 
 -- the records rs are those of the frames below frame i, and h is the mask at its entry
 abbrev pub Learned : Rows → List Record → Model → ℕ → ℕ → Type 0

@@ -1,12 +1,11 @@
 -- What the calls of a machine promise.
-use Rattle.std.specs.Prelude.{◌≡◌, ℕ, ◌-◌, List, [], ◌∷◌, length, Result, MatchResult, slice_index}
+use Rattle.std.specs.Prelude.{◌≡◌, ℕ, ◌-◌, List, length, Result, MatchResult, slice_index}
 use Rattle.frame_map.specs.Maps.{Rows}
 use Rattle.refusal.specs.Numbers.{number_of}
 use Rattle.refusal.specs.declared.Refusal.{Refusal}
-use Rattle.frames.specs.Models.{Model, frames}
 use Rattle.frames.specs.Reasons.{First, start_reasons, enter_reasons, leave_reasons, try_reasons, untry_reasons, raise_reasons, slot_reasons, register_reasons}
 use Rattle.frames.specs.Changes.{started, entered, left, tried, untried, raised, with_slot, with_register, top_handler}
-use Rattle.frames.specs.Views.{View, view, StandsFor, Accepted, Promises}
+use Rattle.frames.specs.Views.{View, view, Accepted, Promises}
 use Rattle.frames.specs.declared.records.Handler.{Handler}
 use Rattle.machine.specs.declared.machine.Machine.{Machine}
 use Rattle.machine.specs.declared.tokens.Pass.{Pass}

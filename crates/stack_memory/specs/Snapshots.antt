@@ -1,5 +1,5 @@
 -- The words of a snapshot: the image's, but for those that were written since.
-use Rattle.std.specs.Prelude.{◌≡◌, ℕ, ◌+◌, ◌*◌, ◌/◌, ◌%◌, ◌^◌, ◌≤◌, Bool, cond, List, map, length, ◌==◌, bit_or, slice_index, slice_set}
+use Rattle.std.specs.Prelude.{ℕ, ◌+◌, ◌/◌, ◌%◌, ◌^◌, Bool, cond, List, map, length, ◌==◌, bit_or, slice_index, slice_set}
 use Rattle.std.specs.List.{range_with_len}
 use Rattle.words.specs.Bytes.{word_in}
 

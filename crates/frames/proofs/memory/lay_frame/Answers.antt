@@ -1,4 +1,4 @@
-use Rattle.std.proofs.Common.{◌≡◌, ◌+◌, ◌-◌, ◌<◌, ◌≤◌, ◌∷◌, ◌++◌, length, take, drop, set, replicate, sym, ap, ◌∙◌, subst, arith}
+use Rattle.std.proofs.Common.{◌≡◌, ◌+◌, ◌<◌, length, set, ap, ◌∙◌, arith}
 use Rattle.frames.proofs.MemoryLaws.{zeroed, zeroed_none, zeroed_more, zeroed_first, length_zeroed, written}
 use Rattle.frames.proofs.memory.lay_frame.Goals as goal
 

@@ -1,5 +1,5 @@
-use Rattle.std.proofs.Common.{◌≡◌, Some, sym, refl, ap, ◌∙◌, arith}
-use Rattle.frames.proofs.StandLaws.{frame_deep, FrameAt, address_marked, address_kept, address_inside, address_read}
+use Rattle.std.proofs.Common.{Some, sym, ap, ◌∙◌, arith}
+use Rattle.frames.proofs.StandLaws.{frame_deep, address_marked, address_kept, address_inside, address_read}
 use Rattle.frames.proofs.memory.return_address.Goals as goal
 
 pub returns-then-frame-state : goal.returns-then-frame-state

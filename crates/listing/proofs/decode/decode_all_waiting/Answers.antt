@@ -1,11 +1,10 @@
-use Rattle.std.proofs.Common.{◌≡◌, ℕ, suc, ◌+◌, ◌-◌, ◌<◌, ◌≤◌, [], ◌∷◌, sym, refl, ap, ◌∙◌, subst, arith}
+use Rattle.std.proofs.Common.{◌≡◌, ◌-◌, sym, refl, ap, ◌∙◌, arith}
 use Rattle.frames.proofs.StackLaws.{frame_number}
 use Rattle.frames.proofs.StandLaws.{kept_of}
-use Rattle.frames.proofs.ScanLaws.{kept_same}
 use Rattle.frames.proofs.ViewLaws.{after_none}
-use Rattle.frames.specs.Models.{frames, newest}
+use Rattle.frames.specs.Models.{frames}
 use Rattle.frames.specs.Views.{after}
-use Rattle.listing.proofs.Loops.{learned_first, none_some, same_trans, loop_step, loop_stops, loop_ends}
+use Rattle.listing.proofs.Loops.{learned_first, same_trans, loop_step, loop_stops, loop_ends}
 use Rattle.listing.proofs.decode.decode_all_waiting.Goals as goal
 
 pub returns-in_default : goal.returns-in_default
@@ -23,9 +22,9 @@ loop-frame-init g c = (
   refl,
   record { phase_same = refl; spacing_same = refl; depth_same = refl; edges_same = refl; registers_same = refl; handlers_same = refl; level_same = refl; markers_same = refl },
   λ s h low. (
-      learned_first _ _ _ _ s c.args.from c.in-Some.held h low c.truncate.ensures (λ xs gs up parts n. c.in-Some.ensures _ _ s xs gs up h parts n low),
-      sym (ap (λ k. after (g.M.FrameMap.count c.args.map.now) k) (let e : c.args.from - c.args.from ≡ 0 = omega arith in e) ∙ after_none (g.M.FrameMap.count c.args.map.now)),
-    ),
+    learned_first _ _ _ _ s c.args.from c.in-Some.held h low c.truncate.ensures (λ xs gs up parts n. c.in-Some.ensures _ _ s xs gs up h parts n low),
+    sym (ap (λ k. after (g.M.FrameMap.count c.args.map.now) k) (let e : c.args.from - c.args.from ≡ 0 = omega arith in e) ∙ after_none (g.M.FrameMap.count c.args.map.now)),
+  ),
 )
 
 pub returns-in-None : goal.returns-in-None

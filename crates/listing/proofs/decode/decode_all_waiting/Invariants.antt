@@ -1,4 +1,4 @@
-use Rattle.std.proofs.Common.{◌≡◌, ℕ, ◌-◌, ◌≤◌}
+use Rattle.std.proofs.Common.{◌≡◌, ◌-◌, ◌≤◌}
 use Rattle.frames.specs.Learning.{SameButRecords}
 use Rattle.frames.specs.Models.{Model}
 use Rattle.frames.specs.Standing.{Stands}

@@ -1,4 +1,4 @@
-use Rattle.std.proofs.Common.{◌≡◌, ◌-◌, ◌<◌, [], ◌∷◌, ◌++◌, length, Some, sym, refl, ap, ◌∙◌, subst, arith}
+use Rattle.std.proofs.Common.{◌≡◌, [], ◌∷◌, ◌++◌, length, Some, sym, refl, ap, ◌∙◌, arith}
 use Rattle.frames.specs.Standing.{scans}
 use Rattle.frames.specs.Tables.{records}
 use Rattle.frames.proofs.ScanLaws.{decoded_held, decoded_record, length-scans, scans-cons}

@@ -1,4 +1,4 @@
-use Rattle.std.proofs.Common.{◌≡◌, ℕ, suc, ◌+◌, List, [], ◌∷◌, ◌++◌, length, Some, None, sym, refl, ap, ◌∙◌, subst, append_assoc, arith}
+use Rattle.std.proofs.Common.{◌≡◌, ℕ, suc, [], ◌∷◌, ◌++◌, length, Some, sym, refl, ap, ◌∙◌, arith}
 use Rattle.frames.proofs.ScanLaws.{waiting_row, described_some, decoded_held, decoded_record}
 use Rattle.frames.proofs.StandLaws.{second_deep}
 use Rattle.frames.proofs.TableLaws.{pushed}

@@ -1,4 +1,4 @@
-use Rattle.std.proofs.Common.{◌≡◌, Some, None, sym, refl, ap, ◌∙◌, subst, arith}
+use Rattle.std.proofs.Common.{Some, ap, ◌∙◌, arith}
 use Rattle.frames.proofs.ScanLaws.{held_none_at, held_below, held_there}
 use Rattle.listing.proofs.decode.held_at.Goals as goal
 

@@ -1,4 +1,4 @@
-use Rattle.std.proofs.Common.{◌≡◌, ◌-◌, ◌<◌, ◌≤◌, get_or, take, sym, refl, ap, subst, arith}
+use Rattle.std.proofs.Common.{◌≡◌, ◌-◌, ◌≤◌, get_or, take, ap, subst, arith}
 use Rattle.frames.specs.Tables.{records, Newest}
 use Rattle.frames.proofs.TableLaws.{newest_of, newest_same, none_newest, dropping_more, dropping_done}
 use Rattle.frames.proofs.table.Table.drop_above.Goals as goal

@@ -1,4 +1,4 @@
-use Rattle.std.proofs.Common.{◌≡◌, ℕ, ◌<◌, ◌≤◌, List, ◌++◌, length, get_or, take}
+use Rattle.std.proofs.Common.{◌≡◌}
 use Rattle.frames.specs.Tables.{records}
 use Rattle.frames.proofs.TableLaws.{Dropping}
 use Rattle.frames.proofs.table.Table.drop_above.Given as goal

@@ -1,8 +1,8 @@
-use Rattle.std.proofs.Common.{◌≡◌, ◌+◌, ◌<◌, ◌≤◌, ◌⊎◌, List, [], ◌∷◌, length, set, sym, refl, ap, ◌∙◌, subst, inl, inr, ⊎_elim, arith}
+use Rattle.std.proofs.Common.{◌≡◌, ◌+◌, ◌<◌, ◌≤◌, length, set, refl, ap, ◌∙◌, inl, inr, ⊎_elim, arith}
 use Rattle.scan.specs.Frames.{top}
 use Rattle.frames.specs.Models.{frames}
 use Rattle.refusal.specs.declared.Refusal.TheVariants.{WrongPhase, OutOfRange, NoRoom}
-use Rattle.frames.proofs.ViewLaws.{runs, not_running, top_is, size_is, stays, stays_asked, unfit, fit_clear, fit_describes}
+use Rattle.frames.proofs.ViewLaws.{runs, not_running, top_is, size_is, stays, stays_asked, unfit}
 use Rattle.frames.proofs.Entering.{laid_at, enter_accepted}
 use Rattle.machine.proofs.machine.Machine.enter.Goals as goal
 

@@ -1,4 +1,4 @@
-use Rattle.std.proofs.Common.{◌≡◌, ℕ, ◌-◌, true, false, ◌⊎◌, List, [], ◌∷◌, length, Some, None, sym, refl, ap, ◌∙◌, subst, inl, inr, arith}
+use Rattle.std.proofs.Common.{◌≡◌, ℕ, ◌-◌, true, false, [], refl, subst, inl, inr, arith}
 use Rattle.refusal.specs.declared.Refusal.TheVariants.{WrongPhase, NothingThere, HandlerStands}
 use Rattle.frames.specs.Falling.{NewestOf}
 use Rattle.frames.specs.Models.{newest}

@@ -1,4 +1,4 @@
-use Rattle.std.proofs.Common.{◌≡◌, ◌⊎◌, sym, refl, ap, ◌∙◌, subst, inl, inr}
+use Rattle.std.proofs.Common.{refl, inl, inr}
 use Rattle.refusal.specs.declared.Refusal.TheVariants.{WrongPhase, NothingThere}
 use Rattle.frames.proofs.CallLaws.{raise_accepted, none_left}
 use Rattle.frames.proofs.ViewLaws.{runs, not_running, stays}

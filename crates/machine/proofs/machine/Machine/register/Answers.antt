@@ -1,4 +1,4 @@
-use Rattle.std.proofs.Common.{◌≡◌, ◌⊎◌, get_or, sym, refl, ap, ◌∙◌, subst, inl, inr, arith}
+use Rattle.std.proofs.Common.{get_or, refl, ap, inl, inr, arith}
 use Rattle.refusal.specs.declared.Refusal.TheVariants.{WrongPhase, OutOfRange}
 use Rattle.frames.proofs.CallLaws.{register_read}
 use Rattle.frames.proofs.ViewLaws.{runs, not_running, stays}

@@ -1,4 +1,4 @@
-use Rattle.std.proofs.Common.{◌≡◌, ◌⊎◌, sym, refl, ap, ◌∙◌, subst, inl, inr, arith}
+use Rattle.std.proofs.Common.{refl, inl, inr, arith}
 use Rattle.refusal.specs.declared.Refusal.TheVariants.{WrongPhase, OutOfRange}
 use Rattle.frames.proofs.CallLaws.{register_written}
 use Rattle.frames.proofs.ViewLaws.{runs, not_running, stays}

@@ -1,8 +1,7 @@
-use Rattle.std.proofs.Common.{◌≡◌, ◌+◌, ◌<◌, ◌≤◌, ◌⊎◌, length, get_or, set, sym, refl, ap, ◌∙◌, subst, inl, inr, ⊎_elim, arith}
+use Rattle.std.proofs.Common.{◌≡◌, ◌+◌, ◌<◌, ◌≤◌, set, refl, ap, ◌∙◌, inl, inr, ⊎_elim, arith}
 use Rattle.refusal.specs.declared.Refusal.TheVariants.{WrongPhase, OutOfRange}
 use Rattle.scan.specs.Frames.{size, top}
 use Rattle.scan.proofs.StackLaws.{top-cons}
-use Rattle.frames.specs.Models.{frames}
 use Rattle.frames.proofs.CallLaws.{slot_written}
 use Rattle.frames.proofs.ViewLaws.{runs, not_running, top_is, base_is, stays}
 use Rattle.machine.proofs.machine.Machine.set_slot.Goals as goal

@@ -1,8 +1,7 @@
-use Rattle.std.proofs.Common.{◌≡◌, ◌+◌, ◌<◌, ◌≤◌, ◌⊎◌, get_or, sym, refl, ap, ◌∙◌, subst, inl, inr, ⊎_elim, arith}
+use Rattle.std.proofs.Common.{◌≡◌, ◌+◌, ◌<◌, ◌≤◌, get_or, refl, ap, ◌∙◌, inl, inr, ⊎_elim, arith}
 use Rattle.refusal.specs.declared.Refusal.TheVariants.{WrongPhase, OutOfRange}
 use Rattle.scan.specs.Frames.{size, top}
 use Rattle.scan.proofs.StackLaws.{top-cons}
-use Rattle.frames.specs.Models.{frames}
 use Rattle.frames.proofs.CallLaws.{slot_read, slot_word}
 use Rattle.frames.proofs.ViewLaws.{runs, not_running, top_is, base_is, stays}
 use Rattle.machine.specs.Promises.{view_of}

@@ -1,4 +1,4 @@
-use Rattle.std.proofs.Common.{◌≡◌, ◌-◌, true, false, ◌⊎◌, sym, refl, ap, ◌∙◌, subst, inl, inr, arith}
+use Rattle.std.proofs.Common.{◌≡◌, true, false, refl, subst, inl, inr, arith}
 use Rattle.refusal.specs.declared.Refusal.TheVariants.{WrongPhase, NothingThere}
 use Rattle.frames.specs.Falling.{NewestOf}
 use Rattle.frames.specs.Models.{newest}
