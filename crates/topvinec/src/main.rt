@@ -3,10 +3,10 @@
 
 mod demo;
 
-use anyhow::anyhow;
 use demo::heap_demo;
 use inspect::{inspect_delta, inspect_sorted};
 use std::io::Read;
+use std::process::ExitCode;
 use std::{env, fs, io};
 
 const HELP: &str = "topvinec: frame maps and heaps of scripts
@@ -125,13 +125,13 @@ fn run(rt: &HostRuntime) -> anyhow::Result<bool> {
     }
 }
 
-fn main(rt: HostRuntime) -> anyhow::Result<()> {
+fn main(rt: HostRuntime) -> ExitCode {
     match run(&rt) {
-        Ok(true) => Ok(()),
-        Ok(false) => Err(anyhow!("refused")),
+        Ok(true) => ExitCode::SUCCESS,
+        Ok(false) => ExitCode::FAILURE,
         Err(e) => {
-            eprintln!(rt; "topvinec: {e}")?;
-            Err(e)
+            let _told = eprintln!(rt; "topvinec: {e}");
+            ExitCode::FAILURE
         }
     }
 }
