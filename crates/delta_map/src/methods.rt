@@ -1,13 +1,12 @@
 // Making a delta map, and its lookups.
 ghost use Rattle.std.specs.Prelude.{◌≡◌, MatchResult};
-ghost use Rattle.std.proofs.Math.Path.{subst};
+ghost use Rattle.std.proofs.Common.{subst};
 ghost use Rattle.delta_map.specs.Faults.{RefusedDelta};
 ghost use Rattle.delta_map.specs.Meaning.{rows_of, count_of, MadeFromDelta, entries_of};
 ghost use Rattle.frame_map.specs.Rows.{Lawful};
 ghost use Rattle.frame_map.proofs.TableLaws.{row_for_some};
 ghost use Rattle.delta_image.proofs.Unique.{the_table};
 ghost use Rattle.frame_map.specs.Maps.{Point};
-ghost use Rattle.std.proofs.Common.{rules, arith};
 
 use crate::check::check_delta;
 use crate::map::DeltaMap;
@@ -42,7 +41,7 @@ impl FrameMap for DeltaMap {
         let f = row_for_some p t.0 r h in
         subst Point f.2 (t.1.table.points f.0 f.1) };
 
-    ghost small = { first_of (Prim.search rules, Prim.grind (arith, Self.row.coded.inj)) };
+    ghost small = { λ m. m.counted };
 
     fn lookup(&mut self, point: u32) -> Option<Row> {
         self.count = self.count.wrapping_add(1);

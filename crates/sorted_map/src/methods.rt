@@ -1,6 +1,6 @@
 // Making a sorted map, and its lookups.
 ghost use Rattle.std.specs.Prelude.{◌≡◌, MatchResult};
-ghost use Rattle.std.proofs.Common.{subst, rules, arith};
+ghost use Rattle.std.proofs.Common.{subst};
 ghost use Rattle.sorted_map.specs.Layout.{RefusedImage};
 ghost use Rattle.sorted_map.specs.Meaning.{rows_of, count_of, MadeFrom};
 ghost use Rattle.frame_map.specs.Rows.{Lawful};
@@ -42,7 +42,7 @@ impl FrameMap for SortedMap {
         let f = row_for_some p (first_entries m.image.items m.rows) r h in
         subst Point f.2 ((table_of m).points f.0 f.1) };
 
-    ghost small = { first_of (Prim.search rules, Prim.grind (arith, Self.row.coded.inj)) };
+    ghost small = { λ m. m.counted };
 
     fn lookup(&mut self, point: u32) -> Option<Row> {
         self.count = self.count.wrapping_add(1);

@@ -2,7 +2,7 @@
 ghost use Rattle.std.specs.Prelude.{MatchResult};
 ghost use Rattle.stack_memory.specs.Making.{MadeLive, NoLive};
 ghost use Rattle.stack_memory.specs.Meaning.{live_words};
-ghost use Rattle.std.proofs.Common.{rules, arith};
+ghost use Rattle.std.proofs.Common.{arith};
 
 use super::LiveMemory;
 use crate::widths::note_words;
@@ -28,11 +28,11 @@ impl LiveMemory {
 impl StackMemory for LiveMemory {
     ghost words = { live_words };
 
-    ghost some = { first_of (Prim.search rules, Prim.grind (arith, Self.row.coded.inj)) };
+    ghost some = { λ m. omega (arith, m.some, m.cells.ok.0) };
 
-    ghost few = { first_of (Prim.search rules, Prim.grind (arith, Self.row.coded.inj)) };
+    ghost few = { λ m. omega (arith, m.few, m.cells.ok.0) };
 
-    ghost small = { first_of (Prim.search rules, Prim.grind (arith, Self.row.coded.inj)) };
+    ghost small = { λ m. m.small };
 
     fn len(&self) -> usize {
         self.cells.len()

@@ -77,6 +77,7 @@ impl SnapshotMemory {
 impl StackMemory for SnapshotMemory {
     ghost words = { snapshot_words };
 
+    // The sizes that the parts keep bound the words.
     ghost some = { λ m. omega (arith, length_snapshot m, m.some) };
 
     ghost few = { λ m. omega (arith, length_snapshot m, m.few) };
