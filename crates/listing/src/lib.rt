@@ -1,8 +1,6 @@
-// Scanning a stack: frames are decoded by the map's rows, and their roots listed.
+// Decoding the frames of a stack by the map's rows.
 #![tactic(auto)]
 
 mod decode;
-mod list;
 
 pub use decode::decode_from;
-pub use list::list_roots;

@@ -1,2 +1,0 @@
-// Listing the roots of a decoded stack.
-pub fn list_roots() {}
