@@ -1,12 +1,9 @@
 // Making a delta map, and its lookups.
 ghost use Rattle.std.specs.Prelude.{◌≡◌, MatchResult};
-ghost use Rattle.std.proofs.Common.{subst};
 ghost use Rattle.delta_map.specs.Faults.{RefusedDelta};
 ghost use Rattle.delta_map.specs.Meaning.{rows_of, count_of, MadeFromDelta, entries_of};
-ghost use Rattle.frame_map.specs.Rows.{Lawful};
-ghost use Rattle.frame_map.proofs.TableLaws.{row_for_some};
+ghost use Rattle.frame_map.proofs.TableLaws.{row_lawful, row_pointed};
 ghost use Rattle.delta_image.proofs.Unique.{the_table};
-ghost use Rattle.frame_map.specs.Maps.{Point};
 
 use crate::check::check_delta;
 use crate::map::DeltaMap;
@@ -29,17 +26,9 @@ impl FrameMap for DeltaMap {
 
     ghost count = { count_of };
 
-    ghost lawful = { unfold entries_of in
-        λ m p r h.
-        let t = the_table m.image.items m.table in
-        let f = row_for_some p t.0 r h in
-        subst Lawful f.3 (t.1.table.lawful f.0 f.1) };
+    ghost lawful = { unfold entries_of in λ m p r. let t = the_table m.image.items m.table in row_lawful p t.0 r t.1.table };
 
-    ghost pointed = { unfold entries_of in
-        λ m p r h.
-        let t = the_table m.image.items m.table in
-        let f = row_for_some p t.0 r h in
-        subst Point f.2 (t.1.table.points f.0 f.1) };
+    ghost pointed = { unfold entries_of in λ m p r. let t = the_table m.image.items m.table in row_pointed p t.0 r t.1.table };
 
     ghost small = { λ m. m.counted };
 

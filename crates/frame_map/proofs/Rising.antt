@@ -52,7 +52,7 @@ rises_above low high p (e ∷ es) r l =
 some_not_none : (r : Row) → ◌≡◌ {A = Option Row} (Some r) None → ⊥
 some_not_none r e = let z : ◌≡◌ {A = ℕ} 0 1 = cc in omega arith
 
-some_same : (r s : Row) → ◌≡◌ {A = Option Row} (Some r) (Some s) → r ≡ s
+pub some_same : {A : Type 0} (r s : A) → ◌≡◌ {A = Option A} (Some r) (Some s) → r ≡ s
 some_same r s e = cc
 
 -- a rising list is determined by its rows

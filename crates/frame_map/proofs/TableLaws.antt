@@ -1,7 +1,9 @@
 -- The row that a list of entries has for a point.
-use Rattle.std.proofs.Common.{◌≡◌, ℕ, zero, suc, ◌<◌, eqb, List, [], ◌∷◌, length, Some, None, sym, refl, ◌∙◌, ⊎_elim, arith}
+use Rattle.std.proofs.Common.{◌≡◌, ℕ, zero, suc, ◌<◌, eqb, List, [], ◌∷◌, length, Some, None, sym, refl, ◌∙◌, subst, ⊎_elim, arith}
 use Rattle.std.proofs.lemmas.Bool.{cases_eq, eq-eqb, ne_eqb, cond-true, cond-false}
-use Rattle.frame_map.specs.Tables.{entry_at, row_for}
+use Rattle.frame_map.specs.Maps.{Point}
+use Rattle.frame_map.specs.Rows.{Lawful}
+use Rattle.frame_map.specs.Tables.{Table, entry_at, row_for}
 use Rattle.frame_map.specs.declared.row.Entry.{Entry}
 use Rattle.frame_map.specs.declared.row.Row.{Row}
 
@@ -33,3 +35,10 @@ row_for_some p (x ∷ es) r h =
     let found = row_for_some p es r (sym (cond-false (eqb x.point p) (Some x.row) (row_for p es) (ne_eqb x.point p ne)) ∙ h) in
     (suc found.0, omega arith, found.2, found.3))
     (cases_eq x.point p)
+
+-- a row that a table has is lawful, and stands at a point
+pub row_lawful : (p : ℕ) (es : List Entry) (r : Row) → Table es → row_for p es ≡ Some r → Lawful r
+row_lawful p es r t h = let f = row_for_some p es r h in subst Lawful f.3 (t.lawful f.0 f.1)
+
+pub row_pointed : (p : ℕ) (es : List Entry) (r : Row) → Table es → row_for p es ≡ Some r → Point p
+row_pointed p es r t h = let f = row_for_some p es r h in subst Point f.2 (t.points f.0 f.1)

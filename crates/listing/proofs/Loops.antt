@@ -1,6 +1,8 @@
 -- What holds while waiting frames are decoded.
 use Rattle.std.proofs.Common.{◌≡◌, ℕ, suc, ◌+◌, ◌-◌, ◌%◌, ◌^◌, ◌<◌, ◌≤◌, List, [], ◌∷◌, ◌++◌, length, take, Some, None, Option, sym, refl, ap, ◌∙◌, subst, append_assoc, arith}
+use Rattle.std.proofs.lemmas.Option.{none-some}
 use Rattle.frame_map.specs.Maps.{Rows}
+use Rattle.frame_map.proofs.Rising.{some_same}
 use Rattle.scan.specs.Frames.{Frame}
 use Rattle.scan.specs.Masks.{held}
 use Rattle.frames.specs.Learning.{SameButRecords}
@@ -19,12 +21,6 @@ use Rattle.listing.specs.Decoding.{DecodedFrame}
 abbrev pub Learned : Rows → List Record → Model → ℕ → ℕ → Type 0
 Learned rows rs s i h =
     (xs gs : List Frame) (g : Frame) → frames s ≡ xs ++ (g ∷ gs) → length gs ≡ i → (h ≡ held rows g.back gs) × (rs ≡ scans rows g.back gs)
-
-pub some_same : (a b : ℕ) → ◌≡◌ {A = Option ℕ} (Some a) (Some b) → a ≡ b
-some_same a b e = cc
-
-pub none_some : (a : ℕ) → ◌≡◌ {A = Option ℕ} None (Some a) → ⊥
-none_some a e = let z : ◌≡◌ {A = ℕ} 0 1 = cc in omega arith
 
 -- one frame more
 pub learned_more : (rows is : Rows) (before counted : ℕ) (ws : List ℕ) (st ts : State) (s : Model) (i h k : ℕ) → Kept rows ws st s → Learned rows (records st.records) s i h → i < newest s → st.depth ≤ 256 → DecodedFrame rows is before counted ws st ts i h (Some k) →
@@ -57,7 +53,7 @@ learned_some rows is before counted ws st ts s i h kept learned under deep d =
         let before_it = learned (xs ++ g ∷ []) fs f (parts ∙ sym (append_assoc xs (g ∷ []) (f ∷ fs))) m in
         let many : length (records st.records) ≡ length fs = ap length before_it.1 ∙ length-scans rows f.back fs in
         let whole = kept.lies.deep in
-        none_some (held rows g.back (f ∷ fs)) (d.decodes s xs fs g f kept parts m before_it.0 (omega arith)).0
+        none-some (held rows g.back (f ∷ fs)) (d.decodes s xs fs g f kept parts m before_it.0 (omega arith)).0
 
 -- before the first frame is decoded
 pub learned_first : (rows : Rows) (ws : List ℕ) (st : State) (rs : List Record) (s : Model) (from h : ℕ) → Stands rows ws st s → from ≤ s.level → rs ≡ take from (records st.records) →

@@ -7,8 +7,8 @@ use Rattle.words.specs.Bytes.{words_of}
 use Rattle.words.proofs.ByteLaws.{length-words_of}
 use Rattle.sorted_map.specs.File.{RefusedFile}
 use Rattle.sorted_map.specs.Layout.{Means, RefusedImage, sorted_fault}
-use Rattle.sorted_map.specs.ImageLaws.{good_long, means_good}
-use Rattle.sorted_map.specs.SearchLaws.{means_long}
+use Rattle.sorted_map.proofs.ImageLaws.{good_long, means_good}
+use Rattle.sorted_map.proofs.SearchLaws.{means_long}
 
 pub bad_words : (bytes : List ℕ) (e : Refusal) → RefusedImage (words_of bytes) e → RefusedFile bytes e
 bad_words bytes e r = record {

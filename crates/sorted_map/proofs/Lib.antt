@@ -1,1 +1,4 @@
 pub mod FileLaws
+pub mod ImageLaws
+pub mod LayoutLaws
+pub mod SearchLaws

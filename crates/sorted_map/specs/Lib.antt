@@ -3,6 +3,4 @@ pub mod Decoding
 pub mod File
 pub mod Layout
 pub mod Meaning
-pub mod SearchLaws
-pub mod ImageLaws
-pub mod LayoutLaws
+pub mod MapTable

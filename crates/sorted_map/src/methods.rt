@@ -1,13 +1,10 @@
 // Making a sorted map, and its lookups.
 ghost use Rattle.std.specs.Prelude.{◌≡◌, MatchResult};
-ghost use Rattle.std.proofs.Common.{subst};
 ghost use Rattle.sorted_map.specs.Layout.{RefusedImage};
 ghost use Rattle.sorted_map.specs.Meaning.{rows_of, count_of, MadeFrom};
-ghost use Rattle.frame_map.specs.Rows.{Lawful};
-ghost use Rattle.frame_map.proofs.TableLaws.{row_for_some};
+ghost use Rattle.frame_map.proofs.TableLaws.{row_lawful, row_pointed};
 ghost use Rattle.sorted_map.specs.Decoding.{first_entries};
-ghost use Rattle.sorted_map.specs.SearchLaws.{table_of};
-ghost use Rattle.frame_map.specs.Maps.{Point};
+ghost use Rattle.sorted_map.specs.MapTable.{table_of};
 
 use crate::check::check_sorted;
 use crate::map::SortedMap;
@@ -34,13 +31,9 @@ impl FrameMap for SortedMap {
 
     ghost count = { count_of };
 
-    ghost lawful = { λ m p r h.
-        let f = row_for_some p (first_entries m.image.items m.rows) r h in
-        subst Lawful f.3 ((table_of m).lawful f.0 f.1) };
+    ghost lawful = { λ m p r. row_lawful p (first_entries m.image.items m.rows) r (table_of m) };
 
-    ghost pointed = { λ m p r h.
-        let f = row_for_some p (first_entries m.image.items m.rows) r h in
-        subst Point f.2 ((table_of m).points f.0 f.1) };
+    ghost pointed = { λ m p r. row_pointed p (first_entries m.image.items m.rows) r (table_of m) };
 
     ghost small = { λ m. m.counted };
 

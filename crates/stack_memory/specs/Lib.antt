@@ -4,4 +4,4 @@ pub mod Snapshots
 pub mod Meaning
 pub mod Parts
 pub mod Making
-pub mod SnapshotLaws
+pub mod SnapshotSizes

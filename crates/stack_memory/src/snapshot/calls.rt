@@ -5,7 +5,7 @@ ghost use Rattle.stack_memory.specs.Meaning.{snapshot_words};
 ghost use Rattle.stack_memory.specs.Parts.{Stored, Kept};
 ghost use Rattle.stack_memory.specs.Promises.{Changed, Unchanged};
 ghost use Rattle.std.proofs.Common.{arith};
-ghost use Rattle.stack_memory.specs.SnapshotLaws.{length_snapshot, words_now_small};
+ghost use Rattle.stack_memory.specs.SnapshotSizes.{length_snapshot, words_now_small};
 
 use super::SnapshotMemory;
 use crate::widths::{note_bytes, note_words};

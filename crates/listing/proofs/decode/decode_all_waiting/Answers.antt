@@ -1,4 +1,4 @@
-use Rattle.std.proofs.Common.{◌≡◌, ◌-◌, sym, refl, ap, ◌∙◌, arith}
+use Rattle.std.proofs.Common.{◌≡◌, ◌-◌, sym, refl, ap, ◌∙◌, arith, rules}
 use Rattle.frames.proofs.StackLaws.{frame_number}
 use Rattle.frames.proofs.StandLaws.{kept_of}
 use Rattle.frames.proofs.ViewLaws.{after_none}
@@ -10,7 +10,7 @@ use Rattle.listing.proofs.decode.decode_all_waiting.Goals as goal
 pub returns-in_default : goal.returns-in_default
 returns-in_default g c = record {
   same = refl;
-  tables = record { phase_same = refl; spacing_same = refl; depth_same = refl; edges_same = refl; registers_same = refl; handlers_same = refl; level_same = refl; markers_same = refl };
+  tables = search rules;
   decodes = λ s h low.
       let under = h.placed.low in
       let there = frame_number (frames s) c.args.from (omega arith) in
@@ -20,7 +20,7 @@ returns-in_default g c = record {
 pub loop-frame-init : goal.loop-frame-init
 loop-frame-init g c = (
   refl,
-  record { phase_same = refl; spacing_same = refl; depth_same = refl; edges_same = refl; registers_same = refl; handlers_same = refl; level_same = refl; markers_same = refl },
+  search rules,
   λ s h low. (
     learned_first _ _ _ _ s c.args.from c.in-Some.held h low c.truncate.ensures (λ xs gs up parts n. c.in-Some.ensures _ _ s xs gs up h parts n low),
     sym (ap (λ k. after (g.M.FrameMap.count c.args.map.now) k) (let e : c.args.from - c.args.from ≡ 0 = omega arith in e) ∙ after_none (g.M.FrameMap.count c.args.map.now)),

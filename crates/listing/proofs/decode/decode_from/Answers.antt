@@ -1,15 +1,16 @@
-use Rattle.std.proofs.Common.{◌≡◌, [], ◌∷◌, ◌++◌, length, Some, sym, refl, ap, ◌∙◌, arith}
+use Rattle.std.proofs.Common.{◌≡◌, [], ◌∷◌, ◌++◌, length, Some, sym, ap, ◌∙◌, arith, rules}
 use Rattle.frames.specs.Standing.{scans}
 use Rattle.frames.specs.Tables.{records}
 use Rattle.frames.proofs.ScanLaws.{decoded_held, decoded_record, length-scans, scans-cons}
 use Rattle.frames.proofs.TableLaws.{pushed}
-use Rattle.listing.proofs.Loops.{some_same, same_trans}
+use Rattle.frame_map.proofs.Rising.{some_same}
+use Rattle.listing.proofs.Loops.{same_trans}
 use Rattle.listing.proofs.decode.decode_from.Goals as goal
 
 pub returns-in-Some : goal.returns-in-Some
 returns-in-Some g c = record {
   same = c.in-Some.ensures.same;
-  tables = same_trans _ _ _ c.in-Some.ensures.tables (record { phase_same = refl; spacing_same = refl; depth_same = refl; edges_same = refl; registers_same = refl; handlers_same = refl; level_same = refl; markers_same = refl });
+  tables = same_trans _ _ _ c.in-Some.ensures.tables (search rules);
   decodes = λ s p h low found.
       let all = c.in-Some.ensures.decodes s h low in
       let rows = g.M.FrameMap.rows c.args.map.now in

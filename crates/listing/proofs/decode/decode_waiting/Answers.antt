@@ -1,4 +1,5 @@
-use Rattle.std.proofs.Common.{◌≡◌, ℕ, suc, [], ◌∷◌, ◌++◌, length, Some, sym, refl, ap, ◌∙◌, arith}
+use Rattle.std.proofs.Common.{◌≡◌, suc, [], ◌∷◌, ◌++◌, length, Some, sym, refl, ap, ◌∙◌, arith, rules}
+use Rattle.std.proofs.lemmas.Option.{none-some}
 use Rattle.frames.proofs.ScanLaws.{waiting_row, described_some, decoded_held, decoded_record}
 use Rattle.frames.proofs.StandLaws.{second_deep}
 use Rattle.frames.proofs.TableLaws.{pushed}
@@ -8,19 +9,18 @@ use Rattle.listing.proofs.decode.decode_waiting.Goals as goal
 pub returns-in-None : goal.returns-in-None
 returns-in-None g c = record {
   same = refl;
-  tables = record { phase_same = refl; spacing_same = refl; depth_same = refl; edges_same = refl; registers_same = refl; handlers_same = refl; level_same = refl; markers_same = refl };
+  tables = search rules;
   decodes = λ s xs fs up f k parts n m room.
       let deep = second_deep _ _ s xs fs up f k.lies parts in
       let at : suc (length fs) ≡ c.saturating_add.result = omega (arith, c.saturating_add.ensures, c.args.state.now.deep) in
       let back = c.in-None.ensures _ s xs (f ∷ fs) up k parts at in
-      let z : ◌≡◌ {A = ℕ} 0 1 = cc in
-      absurd (omega arith);
+      absurd (none-some up.back back);
 }
 
 pub returns-in-None-lookup : goal.returns-in-None-lookup
 returns-in-None-lookup g c = record {
   same = c.lookup.ensures.same;
-  tables = record { phase_same = refl; spacing_same = refl; depth_same = refl; edges_same = refl; registers_same = refl; handlers_same = refl; level_same = refl; markers_same = refl };
+  tables = search rules;
   decodes = λ s xs fs up f k parts n m room.
       let deep = second_deep _ _ s xs fs up f k.lies parts in
       let at : suc (length fs) ≡ c.saturating_add.result = omega (arith, c.saturating_add.ensures, c.args.state.now.deep) in
@@ -32,7 +32,7 @@ returns-in-None-lookup g c = record {
 pub returns-in-Some-lookup : goal.returns-in-Some-lookup
 returns-in-Some-lookup g c = record {
   same = c.lookup.ensures.same;
-  tables = record { phase_same = refl; spacing_same = refl; depth_same = refl; edges_same = refl; registers_same = refl; handlers_same = refl; level_same = refl; markers_same = refl };
+  tables = search rules;
   decodes = λ s xs fs up f k parts n m room.
       let deep = second_deep _ _ s xs fs up f k.lies parts in
       let at : suc (length fs) ≡ c.saturating_add.result = omega (arith, c.saturating_add.ensures, c.args.state.now.deep) in

@@ -2,7 +2,7 @@ use Rattle.std.proofs.Common.{◌≡◌, ◌+◌, ◌*◌, ◌/◌, ◌^◌, ◌
 use Rattle.sorted_map.specs.Checking.{Follows, point_before}
 use Rattle.sorted_map.specs.Decoding.{entry_in}
 use Rattle.sorted_map.specs.Layout.{GoodRows}
-use Rattle.sorted_map.specs.ImageLaws.{good_none, good_more, good_follows, good_means, good_long, point_fits, told}
+use Rattle.sorted_map.proofs.ImageLaws.{good_none, good_more, good_follows, good_means, good_long, point_fits, told}
 use Rattle.sorted_map.proofs.check.check_sorted.Goals as goal
 
 pub loop-i-init : goal.loop-i-init

@@ -4,7 +4,7 @@ use Rattle.frame_map.specs.Rows.{Lawful}
 use Rattle.sorted_map.specs.Checking.{Follows, five}
 use Rattle.sorted_map.specs.Decoding.{entry_in}
 use Rattle.sorted_map.specs.Layout.{sorted_row}
-use Rattle.sorted_map.specs.LayoutLaws.{redone}
+use Rattle.sorted_map.proofs.LayoutLaws.{redone}
 use Rattle.sorted_map.proofs.check.follows.Goals as goal
 
 -- its bits without a meaning are 0, so what is read is laid out as it stands

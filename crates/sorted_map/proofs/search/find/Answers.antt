@@ -1,5 +1,5 @@
 use Rattle.std.proofs.Common.{◌≡◌, ℕ, ◌+◌, ◌/◌, Some, sym, ap, ◌∙◌, arith}
-use Rattle.sorted_map.specs.SearchLaws.{below_too, above_too, found_here, found_nowhere}
+use Rattle.sorted_map.proofs.SearchLaws.{below_too, above_too, found_here, found_nowhere}
 use Rattle.sorted_map.proofs.search.find.Goals as goal
 
 -- the point that was read is that of the middle row

@@ -1,7 +1,7 @@
 use Rattle.std.proofs.Common.{vec_items, sym, refl, ap, subst, arith, lit<}
 use Rattle.frame_map.specs.Tables.{Table, row_for}
 use Rattle.sorted_map.specs.Layout.{HasRows}
-use Rattle.sorted_map.specs.SearchLaws.{first_is, means_long}
+use Rattle.sorted_map.proofs.SearchLaws.{first_is, means_long}
 use Rattle.sorted_map.proofs.map.SortedMap.new.Goals as goal
 
 pub invariant_of-result : goal.invariant_of-result

@@ -1,7 +1,7 @@
 use Rattle.std.proofs.Common.{sym, subst, rules}
 use Rattle.frame_map.specs.Tables.{Table}
 use Rattle.sorted_map.specs.Decoding.{first_entries}
-use Rattle.sorted_map.specs.SearchLaws.{table_of}
+use Rattle.sorted_map.specs.MapTable.{table_of}
 use Rattle.sorted_map.proofs.methods.SortedMapFrameMap.lookup.Goals as goal
 
 pub find-requires : goal.find-requires

@@ -1,7 +1,7 @@
 -- A turn clears one more word of the bit map; with as many cleared as serve the image, its words are the memory's.
 use Rattle.std.proofs.Common.{◌≡◌, ◌/◌, ◌++◌, length, drop, set, replicate, vec_items, refl, ap, ◌∙◌, arith}
 use Rattle.stack_memory.specs.Snapshots.{map_length, words_now}
-use Rattle.stack_memory.specs.SnapshotLaws.{cleared_more, words_now_fresh}
+use Rattle.stack_memory.proofs.SnapshotLaws.{cleared_more, words_now_fresh}
 use Rattle.stack_memory.proofs.snapshot.SnapshotMemory.new.Goals as goal
 
 pub loop-i-preserved : goal.loop-i-preserved

@@ -1,5 +1,5 @@
 use Rattle.std.proofs.Common.{◌/◌, sym, ap, ◌∙◌}
-use Rattle.stack_memory.specs.SnapshotLaws.{length_snapshot}
+use Rattle.stack_memory.specs.SnapshotSizes.{length_snapshot}
 use Rattle.stack_memory.proofs.snapshot.calls.SnapshotMemoryStackMemory.len.Goals as goal
 
 pub returns : goal.returns

@@ -3,7 +3,8 @@ use Rattle.std.proofs.Common.{◌≡◌, ◌/◌, ◌%◌, ◌<◌, length, get_
 use Rattle.std.proofs.lemmas.List.{get_or_read}
 use Rattle.words.specs.Bits.{Bit}
 use Rattle.words.specs.Bytes.{word_in}
-use Rattle.stack_memory.specs.SnapshotLaws.{length_snapshot, word_written, word_unwritten}
+use Rattle.stack_memory.proofs.SnapshotLaws.{word_written, word_unwritten}
+use Rattle.stack_memory.specs.SnapshotSizes.{length_snapshot}
 use Rattle.stack_memory.proofs.snapshot.calls.SnapshotMemoryStackMemory.read.Goals as goal
 
 pub returns-in_default : goal.returns-in_default

@@ -4,7 +4,8 @@ use lib.Bits.{bit_or}
 use Rattle.std.proofs.lemmas.Nat.{one_shl}
 use Rattle.std.proofs.lemmas.List.{get_or_read}
 use Rattle.stack_memory.specs.Snapshots.{words_now, with_bit}
-use Rattle.stack_memory.specs.SnapshotLaws.{length_snapshot, words_now_put}
+use Rattle.stack_memory.proofs.SnapshotLaws.{words_now_put}
+use Rattle.stack_memory.specs.SnapshotSizes.{length_snapshot}
 use Rattle.stack_memory.proofs.snapshot.calls.SnapshotMemoryStackMemory.write.Goals as goal
 
 pub returns-then-index-len : goal.returns-then-index-len

@@ -13,7 +13,7 @@ use Rattle.refusal.specs.declared.Refusal.TheVariants.{BadImage}
 use Rattle.sorted_map.specs.Checking.{five, point_before, Follows}
 use Rattle.sorted_map.specs.Decoding.{spelled, entry_in}
 use Rattle.sorted_map.specs.Layout.{sorted_row, sorted_words, Means, GoodRows, FirstBad, RefusedImage, sorted_fault}
-use Rattle.sorted_map.specs.LayoutLaws.{undone}
+use Rattle.sorted_map.proofs.LayoutLaws.{undone}
 
 pub length_sorted : (es : List Entry) → length (sorted_words es) ≡ 5 * length es
 unfolding sorted_words

@@ -1,17 +1,14 @@
 -- What one look at the middle of a table tells.
-use Rattle.std.specs.Prelude.{◌≡◌, ℕ, ◌+◌, ◌*◌, ◌<◌, ◌≤◌, List, length, Some, None, vec_items}
+use Rattle.std.specs.Prelude.{◌≡◌, ℕ, ◌+◌, ◌*◌, ◌<◌, ◌≤◌, List, length, Some, None}
 use Rattle.std.proofs.Common.{sym, ap, ◌∙◌, ⊎_elim, arith}
-use Rattle.std.proofs.Math.Logic.{∥∥₁_elim}
 use Rattle.std.proofs.lemmas.List.FromFn.{length-map-range_with_len, get_or-map-range_with_len, fill_by_all}
 use Rattle.std.proofs.lemmas.Bool.{cases_eq, cases_lt}
 use Rattle.frame_map.specs.Tables.{Table, blank, entry_at, row_for}
 use Rattle.frame_map.specs.declared.row.Entry.{Entry}
-use Rattle.frame_map.proofs.LawfulProp.{table_prop}
 use Rattle.frame_map.proofs.TableLaws.{row_for_at, row_for_none}
 use Rattle.sorted_map.specs.Decoding.{entry_in, first_entries}
 use Rattle.sorted_map.specs.Layout.{Means}
-use Rattle.sorted_map.specs.declared.map.SortedMap.{SortedMap}
-use Rattle.sorted_map.specs.ImageLaws.{length_sorted, read_means}
+use Rattle.sorted_map.proofs.ImageLaws.{length_sorted, read_means}
 
 pub length_first : (ws : List ℕ) (n : ℕ) → length (first_entries ws n) ≡ n
 unfolding first_entries
@@ -64,6 +61,3 @@ first_is ws es n len m =
 
 pub means_long : (ws : List ℕ) (es : List Entry) → Means ws es → length ws ≡ 5 * length es
 means_long ws es m = ap length (sym m.laid) ∙ length_sorted es
-
-pub table_of : (m : SortedMap) → Table (first_entries (vec_items m.image) m.rows)
-table_of m = ∥∥₁_elim m.table (table_prop (first_entries (vec_items m.image) m.rows)) (λ t. t)

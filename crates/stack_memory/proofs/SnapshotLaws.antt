@@ -1,24 +1,15 @@
--- Laws of the words of a snapshot: how many, which, how large, after a write, and when no word was written yet.
-use Rattle.std.specs.Prelude.{◌≡◌, ℕ, ◌+◌, ◌*◌, ◌/◌, ◌%◌, ◌^◌, ◌<◌, ◌≤◌, true, false, cond, ◌≢◌, List, [], ◌∷◌, ◌++◌, length, drop, set, replicate, vec_items, vec_len, bit_or, nat_eq, slice_index, slice_index_or, slice_set}
+-- Laws of the words of a snapshot: which, after a write, and when no word was written yet.
+use Rattle.std.specs.Prelude.{◌≡◌, ℕ, ◌+◌, ◌/◌, ◌%◌, ◌^◌, ◌<◌, ◌≤◌, true, cond, ◌≢◌, List, [], ◌∷◌, ◌++◌, length, drop, set, replicate, bit_or, nat_eq, slice_index, slice_index_or, slice_set}
 use Rattle.std.proofs.Common.{sym, ap, subst, ◌∙◌, ⊎_elim, arith}
-use Rattle.std.proofs.lemmas.List.FromFn.{length-map-range_with_len, get_or-map-range_with_len}
-use Rattle.std.proofs.lemmas.List.{ext_get_or, length-set, get_or-set_same, get_or-set_other, get_or_past, get_or-replicate, get_or_append_left, length-replicate, drop_more, set_at, append_assoc, replicate_more}
-use Rattle.std.proofs.lemmas.Bool.{cases_eq, cases_lt, eq-eqb, ne_eqb, cond-true, cond-false, cases_Bool}
+use Rattle.std.proofs.lemmas.List.FromFn.{get_or-map-range_with_len}
+use Rattle.std.proofs.lemmas.List.{ext_get_or, length-set, get_or-set_same, get_or-set_other, get_or-replicate, get_or_append_left, length-replicate, drop_more, set_at, append_assoc, replicate_more}
+use Rattle.std.proofs.lemmas.Bool.{cases_eq, eq-eqb, ne_eqb, cond-true, cond-false}
 use Rattle.words.specs.Bits.{Bit}
 use Rattle.words.specs.Bytes.{word_in, words_of}
 use Rattle.words.proofs.BitLaws.{parity, bit_below, bit_put_same, bit_put_kept, bit_put_other}
 use Rattle.words.proofs.ByteLaws.{length-words_of}
-use Rattle.stack_memory.specs.declared.snapshot.SnapshotMemory.{SnapshotMemory}
-use Rattle.stack_memory.specs.Meaning.{snapshot_words}
 use Rattle.stack_memory.specs.Snapshots.{map_length, marked, word_now, words_now, with_bit}
-
-pub length-words_now : (image buffer bits : List ℕ) → length (words_now image buffer bits) ≡ length image / 4
-unfolding words_now
-length-words_now image buffer bits = length-map-range_with_len (word_now image buffer bits) 0 (length image / 4)
-
-pub slice_index-words_now : (image buffer bits : List ℕ) (i : ℕ) → i < length image / 4 → slice_index (words_now image buffer bits) i ≡ word_now image buffer bits i
-unfolding words_now
-slice_index-words_now image buffer bits i h = get_or-map-range_with_len (word_now image buffer bits) 0 (length image / 4) i i 0 h (omega arith)
+use Rattle.stack_memory.specs.SnapshotSizes.{length-words_now, slice_index-words_now}
 
 -- a word that was written is the buffer's, any other the image's
 pub word_written : (image buffer bits : List ℕ) (i : ℕ) → i < length image / 4 → Bit (slice_index bits (i / 32)) (i % 32) → slice_index (words_now image buffer bits) i ≡ slice_index buffer i
@@ -30,21 +21,6 @@ pub word_unwritten : (image buffer bits : List ℕ) (i : ℕ) → i < length ima
 word_unwritten image buffer bits i h b =
     slice_index-words_now image buffer bits i h
     ∙ cond-false (marked bits i) (slice_index buffer i) (word_in image i) (ne_eqb _ 1 b)
-
--- each word has 32 bits
-pub words_now_small : (image buffer bits : List ℕ) → ((i : ℕ) → slice_index image i < 2 ^ 8) → ((i : ℕ) → slice_index buffer i < 2 ^ 32) → (i : ℕ) → slice_index (words_now image buffer bits) i < 2 ^ 32
-words_now_small image buffer bits p q i =
-    ⊎_elim
-    (λ (h : i < length image / 4).
-    ⊎_elim
-    (λ (t : marked bits i ≡ true).
-    omega (arith, slice_index-words_now image buffer bits i h ∙ cond-true (marked bits i) (slice_index buffer i) (word_in image i) t, q i))
-    (λ (t : marked bits i ≡ false).
-    omega (arith, slice_index-words_now image buffer bits i h ∙ cond-false (marked bits i) (slice_index buffer i) (word_in image i) t, p (4 * i), p (4 * i + 1), p (4 * i + 2), p (4 * i + 3)))
-    (cases_Bool (marked bits i)))
-    (λ (h : length image / 4 ≤ i).
-    omega (arith, get_or_past (words_now image buffer bits) i 0 (omega (arith, length-words_now image buffer bits))))
-    (cases_lt i (length image / 4))
 
 -- another bit of a mask stays when one is put
 digit_put_other : (m a b : ℕ) → (b ≢ a) → bit_or m (2 ^ a) / 2 ^ b % 2 ≡ m / 2 ^ b % 2
@@ -124,9 +100,3 @@ words_now_fresh image buffer rest =
     word_unwritten image buffer bits k below
     (λ b. bit_below 0 (k % 32) 0 (omega arith) (omega arith) (subst (λ x. Bit x (k % 32)) zero_there b))
     ∙ sym (get_or-map-range_with_len (word_in image) 0 n k k 0 below (omega arith)))
-
--- a snapshot has as many words as its image
-pub length_snapshot : (m : SnapshotMemory) → length (snapshot_words m) ≡ vec_len m.image / 4
-length_snapshot m =
-    length-words_now (vec_items m.image) (vec_items m.buffer) (vec_items m.written)
-    ∙ ap (λ n. n / 4) (sym m.image.ok.0)
