@@ -9,7 +9,7 @@ ghost use Rattle.frames.specs.Standing.{Kept};
 use crate::state::State;
 use stack_memory::StackMemory;
 
-// Puts a frame of `size` words at place `at`: the return address, and 0 in each slot. A frame without words changes nothing.
+// Puts a frame of `size` words at place `at`: the return address, and 0 in each slot. `size` is at least 1.
 pub fn lay_frame<S: StackMemory>(memory: &mut S, at: u16, size: u8, address: u32)
     ensures { 1 ≤ size → at + size ≤ length (S.words memory.old) → S.words memory.new ≡ take at (S.words memory.old) ++ ((address ∷ replicate (size - 1) 0) ++ drop (at + size) (S.words memory.old)) }
 {

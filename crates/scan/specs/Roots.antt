@@ -8,8 +8,8 @@ use Rattle.scan.specs.Frames.{Frame, size, top}
 
 -- callee-save register r(8 + k) holds a pointer where a frame with this row stands: the row names it a pointer register, or untouched, and then it held one at the frame's entry
 abbrev pub Passes : Option Row → ℕ → Type 0 → Type 0
-Passes None k at_entry_lem = ⊥
-Passes (Some r) k at_entry_lem = Bit r.registers (8 + k) ⊎ (Bit r.untouched k × at_entry_lem)
+Passes None k at_entry = ⊥
+Passes (Some r) k at_entry = Bit r.registers (8 + k) ⊎ (Bit r.untouched k × at_entry)
 
 -- r(8 + k) holds a pointer where these frames stand; with no frame none does
 unfoldable pub Held : Rows → ℕ → List Frame → ℕ → Type 0
@@ -22,12 +22,12 @@ PointerSlot r ws i = Bit r.slots i
 
 -- slot i is where a frame saved a register that held a pointer at its entry
 abbrev pub SavedPointer : Row → (ℕ → Type 0) → ℕ → Type 0
-SavedPointer r at_entry_lem i = (k : ℕ) × (k < 8) × (0 < i) × (saved_slot r k ≡ i) × at_entry_lem k
+SavedPointer r at_entry i = (k : ℕ) × (k < 8) × (0 < i) × (saved_slot r k ≡ i) × at_entry k
 
 -- slot i of a frame is a root
 abbrev pub SlotRoot : Option Row → List ℕ → (ℕ → Type 0) → ℕ → Type 0
-SlotRoot None ws at_entry_lem i = ⊥
-SlotRoot (Some r) ws at_entry_lem i = PointerSlot r ws i ⊎ SavedPointer r at_entry_lem i
+SlotRoot None ws at_entry i = ⊥
+SlotRoot (Some r) ws at_entry i = PointerSlot r ws i ⊎ SavedPointer r at_entry i
 
 -- the stack word at place c is a root
 unfoldable pub StackRoot : Rows → ℕ → List Frame → ℕ → Type 0
