@@ -113,12 +113,12 @@ def table():
 def clash(new):
     """Names that would fall together with another one of the same file's text."""
     bad = []
-    for path in files() + glob.glob("crates/*/src/**/*.rt", recursive=True):
+    for path in files():
         words = set(WORD.findall(open(path, encoding="utf-8").read()))
         after = collections.defaultdict(set)
         for w in words:
             after[new.get(w, w)].add(w)
-        bad += [(path, k, v) for k, v in after.items() if len(v) > 1 and path.endswith(".antt")]
+        bad += [(path, k, v) for k, v in after.items() if len(v) > 1]
     turned = collections.defaultdict(set)
     for old, name in new.items():
         turned[name].add(old)
@@ -149,7 +149,7 @@ def main():
         return
     if bad:
         sys.exit(1)
-    paths = files() + sorted(glob.glob("crates/*/src/**/*.rt", recursive=True)) + sorted(glob.glob("docs/*.md")) + ["README.md"]
+    paths = files() + sorted(glob.glob("crates/*/src/**/*.rt", recursive=True))
     for path in paths:
         text = open(path, encoding="utf-8").read()
         after = respelled(text, new, fields)
