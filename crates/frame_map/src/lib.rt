@@ -6,4 +6,4 @@ mod row;
 mod show;
 
 pub use map::{FrameMap, entries};
-pub use row::{Entry, Row};
+pub use row::{Entry, MAX_ROWS, MAX_SIZE, Row};

@@ -7,9 +7,11 @@ use words::has_bit;
 
 // A frame has at most this many words.
 pub const MAX_SIZE: u8 = 32;
+// A map's image has at most this many rows.
+pub const MAX_ROWS: usize = 1024;
 
 // A frame at a point. Registers r0 to r7 are scratch (caller-save), r8 to r15 callee-save.
-#[derive(Clone, Copy, Debug)]
+#[derive(Clone, Copy, PartialEq, Eq, Debug)]
 pub struct Row {
     // Words in the frame. Word 0 holds the return address; slots are words 1 to size - 1.
     pub size: u8,
@@ -24,7 +26,7 @@ pub struct Row {
 }
 
 // A row with the point that it describes.
-#[derive(Clone, Copy, Debug)]
+#[derive(Clone, Copy, PartialEq, Eq, Debug)]
 pub struct Entry {
     pub point: u16,
     pub row: Row,
