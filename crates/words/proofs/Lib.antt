@@ -1,3 +1,4 @@
 pub mod BitLaws
 pub mod ByteLaws
+pub mod ChunkLaws
 pub mod TestLaws

@@ -21,22 +21,18 @@ pub fn has_bit(mask: u32, i: u32) -> bool
 pub fn word_at(bytes: &[u8], index: usize) -> Option<u32>
     ensures { MatchOption result (length bytes.now / 4 ≤ index) (λ w. (index < length bytes.now / 4) × (w ≡ word_in bytes.now index)) }
 {
-    if index >= bytes.len() / 4 {
-        return None;
-    }
-    let at = 4 * index;
-    Some(u32::from_le_bytes([bytes[at], bytes[at + 1], bytes[at + 2], bytes[at + 3]]))
+    let (words, _rest) = bytes.as_chunks::<4>();
+    let word = words.get(index)?;
+    Some(u32::from_le_bytes(*word))
 }
 
 // All whole words of an image of bytes.
 pub fn words_from_bytes(heap: Global, bytes: &[u8]) -> Result<Vec<u32>, AllocError>
     ensures { IfOk result (λ v. v.items ≡ words_of bytes.now) }
 {
-    let mut words = Vec::new(heap);
-    for i in 0..bytes.len() / 4 {
-        if let Some(word) = word_at(bytes, i) {
-            words.push(word)?;
-        }
-    }
-    Ok(words)
+    let (words, _rest) = bytes.as_chunks::<4>();
+    words
+        .iter()
+        .map(|word| u32::from_le_bytes(*word))
+        .collect(heap)
 }
