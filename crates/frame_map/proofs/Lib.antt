@@ -1,3 +1,4 @@
+pub mod HexLaws
 pub mod LawfulProp
 pub mod Listing
 pub mod MapLaws

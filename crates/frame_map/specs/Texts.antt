@@ -1,9 +1,6 @@
 -- The line that shows an entry.
 use Rattle.std.specs.Prelude.{ℕ, ◌+◌, ◌/◌, ◌%◌, cond, List, [], ◌∷◌, ◌++◌, codes, decimal, ◌==◌, nat_lt, slice_index}
 use Rattle.frame_map.specs.declared.row.Entry.{Entry}
-use Rattle.frame_map.specs.declared.show.Hex.{Hex}
-use Rattle.frame_map.specs.declared.show.Hexes.{Hexes}
-use Rattle.frame_map.specs.declared.show.Masks.{Masks}
 use Rattle.frame_map.specs.declared.show.Slot.{Slot}
 use Rattle.frame_map.specs.declared.show.Slots.{Slots}
 
@@ -15,15 +12,9 @@ digit d = cond (nat_lt d 10) (48 + d) (87 + d)
 unfoldable pub byte_text : ℕ → List ℕ
 byte_text x = digit (x / 16 % 16) ∷ digit (x % 16) ∷ []
 
-abbrev pub hex_text : Hex → List ℕ
-hex_text x = byte_text x.0
-
 -- a word in eight digits
 unfoldable pub eight_digits : ℕ → List ℕ
 eight_digits x = byte_text (x / 16777216 % 256) ++ (byte_text (x / 65536 % 256) ++ (byte_text (x / 256 % 256) ++ byte_text (x % 256)))
-
-abbrev pub word_text : Hexes → List ℕ
-word_text x = eight_digits x.0
 
 -- a saved slot, or - for none, behind a space
 abbrev pub slot_word : ℕ → List ℕ
@@ -47,9 +38,6 @@ three_masks slots registers untouched =
     codes "slots 0x" ++ (eight_digits slots
     ++ (codes " registers 0x" ++ (byte_text (registers / 256) ++ (byte_text (registers % 256)
     ++ (codes " untouched 0x" ++ byte_text untouched)))))
-
-abbrev pub masks_text : Masks → List ℕ
-masks_text m = three_masks m.slots m.registers m.untouched
 
 -- the line of an entry
 abbrev pub entry_text : Entry → List ℕ

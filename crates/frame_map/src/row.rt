@@ -63,10 +63,7 @@ impl Row {
         if slot == 0 {
             return Some(taken);
         }
-        if slot >= self.size {
-            return None;
-        }
-        if has_bit(taken, u32::from(slot)) {
+        if slot >= self.size || has_bit(taken, u32::from(slot)) {
             return None;
         }
         Some(taken | 1 << slot)
@@ -77,8 +74,8 @@ impl Row {
         ensures { MatchBool result (Saved self.now) (Saved self.now → ⊥) }
     {
         let mut taken = self.slots;
-        for k in 0..8 {
-            let Some(more) = self.taking(taken, self.saved[k]) else {
+        for slot in &self.saved {
+            let Some(more) = self.taking(taken, *slot) else {
                 return false;
             };
             taken = more;
@@ -90,15 +87,9 @@ impl Row {
     pub fn is_lawful(&self) -> bool
         ensures { MatchBool result (Lawful self.now) (Lawful self.now → ⊥) }
     {
-        if !self.has_fair_size() {
-            return false;
-        }
-        if !self.has_fair_slots() {
-            return false;
-        }
-        if !self.has_fair_saved() {
-            return false;
-        }
-        self.has_fair_registers()
+        self.has_fair_size()
+            && self.has_fair_slots()
+            && self.has_fair_saved()
+            && self.has_fair_registers()
     }
 }

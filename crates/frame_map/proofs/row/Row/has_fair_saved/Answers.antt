@@ -5,17 +5,17 @@ use Rattle.frame_map.specs.Rows.{saved_slot}
 use Rattle.frame_map.proofs.RowLaws.{Fair, fair_skip, fair_take, saved_from}
 use Rattle.frame_map.proofs.row.Row.has_fair_saved.Goals as goal
 
-pub loop-k-preserved : goal.loop-k-preserved
-loop-k-preserved c =
+pub loop-slot-preserved : goal.loop-slot-preserved
+loop-slot-preserved c =
     ⊎_elim
-    (λ (z : (saved_slot c.args.self.now c.loop-k.k ≡ 0) × (c.in-Some.more ≡ c.loop-k.taken)).
-    subst (λ x. Fair c.args.self.now (c.loop-k.k + 1) x) (sym z.1) (fair_skip c.args.self.now c.loop-k.k c.loop-k.taken c.loop-k.invariant z.0))
-    (λ (t : (0 < saved_slot c.args.self.now c.loop-k.k) × (saved_slot c.args.self.now c.loop-k.k < c.args.self.now.size) × (Bit c.loop-k.taken (saved_slot c.args.self.now c.loop-k.k) → ⊥) × (c.in-Some.more ≡ bit_or c.loop-k.taken (2 ^ saved_slot c.args.self.now c.loop-k.k))).
-    subst (λ x. Fair c.args.self.now (c.loop-k.k + 1) x) (sym t.3) (fair_take c.args.self.now c.loop-k.k c.loop-k.taken c.loop-k.invariant t.0 t.1 t.2))
+    (λ (z : (saved_slot c.args.self.now c.loop-slot.slot-index ≡ 0) × (c.in-Some.more ≡ c.loop-slot.taken)).
+    subst (λ x. Fair c.args.self.now (c.loop-slot.slot-index + 1) x) (sym z.1) (fair_skip c.args.self.now c.loop-slot.slot-index c.loop-slot.taken c.loop-slot.invariant z.0))
+    (λ (t : (0 < saved_slot c.args.self.now c.loop-slot.slot-index) × (saved_slot c.args.self.now c.loop-slot.slot-index < c.args.self.now.size) × (Bit c.loop-slot.taken (saved_slot c.args.self.now c.loop-slot.slot-index) → ⊥) × (c.in-Some.more ≡ bit_or c.loop-slot.taken (2 ^ saved_slot c.args.self.now c.loop-slot.slot-index))).
+    subst (λ x. Fair c.args.self.now (c.loop-slot.slot-index + 1) x) (sym t.3) (fair_take c.args.self.now c.loop-slot.slot-index c.loop-slot.taken c.loop-slot.invariant t.0 t.1 t.2))
     c.in-Some.ensures
 
 pub returns : goal.returns
 returns c =
     let eight : length c.args.self.now.saved ≡ 8 = search rules in
-    let e : c.loop-k.k ≡ 8 = omega arith in
-    saved_from c.args.self.now c.loop-k.taken eight (subst (λ k. Fair c.args.self.now k c.loop-k.taken) e c.loop-k.invariant)
+    let e : c.loop-slot.slot-index ≡ 8 = omega arith in
+    saved_from c.args.self.now c.loop-slot.taken eight (subst (λ k. Fair c.args.self.now k c.loop-slot.taken) e c.loop-slot.invariant)
