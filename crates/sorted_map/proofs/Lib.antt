@@ -1,4 +1,5 @@
 pub mod FileLaws
 pub mod ImageLaws
 pub mod LayoutLaws
+pub mod PieceLaws
 pub mod SearchLaws

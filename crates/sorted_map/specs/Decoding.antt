@@ -28,6 +28,14 @@ entry_in ws i = spelled (slice_index ws (5 * i)) (slice_index ws (5 * i + 1)) (s
 unfoldable pub first_entries : List ℕ → ℕ → List Entry
 first_entries ws n = map (entry_in ws) (range_with_len 0 n)
 
+-- the entries that rows of five words spell
+unfoldable pub entries_of : List (List ℕ) → List Entry
+entries_of rows = map (λ row. entry_in row 0) rows
+
+-- all rows of an image
+abbrev pub all_entries : List ℕ → List Entry
+all_entries ws = first_entries ws (length ws / 5)
+
 -- what an image means: for each point the row of the entry that has it
 abbrev pub meaning : List ℕ → Rows
-meaning ws p = row_for p (first_entries ws (length ws / 5))
+meaning ws p = row_for p (all_entries ws)

@@ -1,61 +1,45 @@
 // Reading the rows of a sorted image, and telling the first that is bad.
-ghost use Rattle.std.specs.Prelude.{◌≡◌, ◌+◌, ◌*◌, ◌^◌, ◌≤◌, length, MatchBool, MatchResult};
+ghost use Rattle.std.specs.Prelude.{◌≡◌, ◌^◌, ◌≤◌, MatchBool, MatchResult};
 ghost use Rattle.refusal.specs.declared.Refusal.TheVariants.{BadImage};
 ghost use Rattle.sorted_map.specs.Checking.{Follows};
 ghost use Rattle.sorted_map.specs.Decoding.{entry_in};
 ghost use Rattle.sorted_map.specs.Layout.{HasRows, RefusedImage, sorted_fault};
 
-use frame_map::{Entry, Row};
+use frame_map::{Entry, MAX_ROWS, Row};
 use refusal::{ImageFault, Place, Refusal};
 
 // A row takes five words.
 pub const ROW_WORDS: usize = 5;
-// An image has at most this many rows.
-pub const MAX_ROWS: usize = 1024;
 
-// Row `index` of an image, whatever its words hold.
-pub(crate) fn entry_at(image: &[u32], index: usize) -> Entry
-    requires { 5 * index + 5 ≤ length image.now }
-    ensures { result ≡ entry_in image.now index }
+// The entry that a row's words spell, whatever they hold.
+pub(crate) fn entry_of(words: &[u32; ROW_WORDS]) -> Entry
+    ensures { result ≡ entry_in words.now 0 }
 {
-    let at = ROW_WORDS * index;
-    let head = image[at];
-    let masks = image[at + 2];
-    let low = image[at + 3].to_le_bytes();
-    let high = image[at + 4].to_le_bytes();
-    let saved = [
-        low[0], low[1], low[2], low[3], high[0], high[1], high[2], high[3],
-    ];
+    let [head, slots, masks, low, high] = *words;
+    let [a, b, c, d] = low.to_le_bytes();
+    let [e, f, g, h] = high.to_le_bytes();
     Entry {
         point: (head / 65536) as u16,
         row: Row {
             size: (head % 256) as u8,
-            slots: image[at + 1],
-            saved,
+            slots,
+            saved: [a, b, c, d, e, f, g, h],
             registers: (masks % 65536) as u16,
             untouched: (masks / 65536 % 256) as u8,
         },
     }
 }
 
-// Whether row `index` may follow a row at the point `last`.
-fn follows(image: &[u32], index: usize, last: u16) -> bool
-    requires { 5 * index + 5 ≤ length image.now }
-    ensures { MatchBool result (Follows image.now index last) (Follows image.now index last → ⊥) }
+// Whether a row may follow one at the point `last`.
+fn follows(words: &[u32; ROW_WORDS], last: u16) -> bool
+    ensures { MatchBool result (Follows words.now 0 last) (Follows words.now 0 last → ⊥) }
 {
-    let at = ROW_WORDS * index;
     // A size has one byte, and above the registers stands one byte of untouched registers.
-    if image[at] / 256 % 256 != 0 {
+    if words[0] / 256 % 256 != 0 || words[2] >= 1 << 24 {
         return false;
     }
-    if image[at + 2] >= 1 << 24 {
-        return false;
-    }
-    let entry = entry_at(image, index);
-    if entry.point <= last {
-        return false;
-    }
-    entry.row.is_lawful()
+    let entry = entry_of(words);
+    entry.point > last && entry.row.is_lawful()
 }
 
 // The fault that tells row `row`, by its first word.
@@ -74,19 +58,16 @@ pub(crate) fn fault(row: usize) -> Refusal
 pub fn check_sorted(image: &[u32]) -> Result<usize, Refusal>
     ensures { MatchResult result (HasRows image.now) (RefusedImage image.now) }
 {
-    let rows = image.len() / ROW_WORDS;
+    let (rows, rest) = image.as_chunks::<ROW_WORDS>();
     let mut last = 0;
-    for i in 0..rows {
-        if i >= MAX_ROWS {
+    for (i, row) in rows.iter().enumerate() {
+        if i >= MAX_ROWS || !follows(row, last) {
             return Err(fault(i));
         }
-        if !follows(image, i, last) {
-            return Err(fault(i));
-        }
-        last = entry_at(image, i).point;
+        last = entry_of(row).point;
     }
-    if image.len() % ROW_WORDS != 0 {
-        return Err(fault(rows));
+    if !rest.is_empty() {
+        return Err(fault(rows.len()));
     }
-    Ok(rows)
+    Ok(rows.len())
 }

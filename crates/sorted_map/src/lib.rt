@@ -7,6 +7,7 @@ mod map;
 mod methods;
 mod search;
 
-pub use check::{MAX_ROWS, ROW_WORDS, check_sorted};
+pub use check::{ROW_WORDS, check_sorted};
+pub use frame_map::MAX_ROWS;
 pub use load::{LoadError, load_sorted};
 pub use map::SortedMap;

@@ -3,7 +3,7 @@ ghost use Rattle.std.specs.Prelude.{◌≡◌, MatchResult};
 ghost use Rattle.sorted_map.specs.File.{MadeFromFile, LoadFailed};
 ghost use Rattle.sorted_map.specs.declared.load.LoadError.TheVariants.{NoMemory, Refused};
 
-use crate::check::fault;
+use crate::check::{ROW_WORDS, fault};
 use crate::map::SortedMap;
 use refusal::Refusal;
 use std::alloc::{AllocError, Global};
@@ -38,9 +38,10 @@ pub fn load_sorted(heap: Global, bytes: &[u8]) -> Result<SortedMap, LoadError>
     ensures { MatchResult result (MadeFromFile bytes.now) (LoadFailed bytes.now) }
 {
     let words = words_from_bytes(heap, bytes)?;
+    let rows = words.len() / ROW_WORDS;
     let map = SortedMap::new(words)?;
     if bytes.len() % 4 != 0 {
-        return Err(LoadError::Refused(fault(map.rows)));
+        return Err(LoadError::Refused(fault(rows)));
     }
     Ok(map)
 }

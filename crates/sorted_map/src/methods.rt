@@ -3,10 +3,10 @@ ghost use Rattle.std.specs.Prelude.{◌≡◌, MatchResult};
 ghost use Rattle.sorted_map.specs.Layout.{RefusedImage};
 ghost use Rattle.sorted_map.specs.Meaning.{rows_of, count_of, MadeFrom};
 ghost use Rattle.frame_map.proofs.TableLaws.{row_lawful, row_pointed};
-ghost use Rattle.sorted_map.specs.Decoding.{first_entries};
+ghost use Rattle.sorted_map.specs.Decoding.{all_entries};
 ghost use Rattle.sorted_map.specs.MapTable.{table_of};
 
-use crate::check::check_sorted;
+use crate::check::{ROW_WORDS, check_sorted};
 use crate::map::SortedMap;
 use crate::search::find;
 use frame_map::{FrameMap, Row};
@@ -17,12 +17,8 @@ impl SortedMap {
     pub fn new(image: Vec<u32>) -> Result<SortedMap, Refusal>
         ensures { MatchResult result (MadeFrom image.items) (RefusedImage image.items) }
     {
-        let rows = check_sorted(image.as_slice())?;
-        Ok(SortedMap {
-            image,
-            rows,
-            count: 0,
-        })
+        check_sorted(image.as_slice())?;
+        Ok(SortedMap { image, count: 0 })
     }
 }
 
@@ -31,15 +27,16 @@ impl FrameMap for SortedMap {
 
     ghost count = { count_of };
 
-    ghost lawful = { λ m p r. row_lawful p (first_entries m.image.items m.rows) r (table_of m) };
+    ghost lawful = { λ m p r. row_lawful p (all_entries m.image.items) r (table_of m) };
 
-    ghost pointed = { λ m p r. row_pointed p (first_entries m.image.items m.rows) r (table_of m) };
+    ghost pointed = { λ m p r. row_pointed p (all_entries m.image.items) r (table_of m) };
 
     ghost small = { λ m. m.counted };
 
     fn lookup(&mut self, point: u32) -> Option<Row> {
         self.count = self.count.wrapping_add(1);
-        find(self.image.as_slice(), self.rows, point)
+        let (rows, _rest) = self.image.as_chunks::<ROW_WORDS>();
+        find(rows, point)
     }
 
     fn lookups(&self) -> u32 {

@@ -1,32 +1,17 @@
-// Finding a point's row in a sorted image by halving.
-ghost use Rattle.std.specs.Prelude.{◌≡◌, ◌*◌, length};
+// Finding a point's row by halving.
+ghost use Rattle.std.specs.Prelude.{◌≡◌};
 ghost use Rattle.frame_map.specs.Tables.{Table, row_for};
-ghost use Rattle.sorted_map.specs.Decoding.{first_entries};
+ghost use Rattle.sorted_map.specs.Decoding.{entries_of};
 
-use crate::check::entry_at;
+use crate::check::{ROW_WORDS, entry_of};
 use frame_map::Row;
 
-// The row of a point among the first `rows` rows. The stretch that may hold it is halved at each turn,
-// so 1,024 rows take at most 11 turns, and each reads one row.
-pub(crate) fn find(image: &[u32], rows: usize, point: u32) -> Option<Row>
-    requires whole { length image.now ≡ 5 * rows }
-    requires table { Table (first_entries image.now rows) }
-    ensures { result ≡ row_for point (first_entries image.now rows) }
+// The row of a point. 1,024 rows take at most 11 looks.
+pub(crate) fn find(rows: &[[u32; ROW_WORDS]], point: u32) -> Option<Row>
+    requires { Table (entries_of rows.now) }
+    ensures { result ≡ row_for point (entries_of rows.now) }
 {
-    let mut low = 0;
-    let mut high = rows;
-    while low < high {
-        let middle = (low + high) / 2;
-        let entry = entry_at(image, middle);
-        let here = u32::from(entry.point);
-        if here == point {
-            return Some(entry.row);
-        }
-        if here < point {
-            low = middle + 1;
-        } else {
-            high = middle;
-        }
-    }
-    None
+    let found = rows.binary_search_by_key(&point, |row| u32::from(entry_of(row).point));
+    let row = found.ok()?;
+    Some(entry_of(&rows[row]).row)
 }
