@@ -3,7 +3,9 @@ use Rattle.std.specs.Prelude.{ℕ, List, ◌++◌, Some, None, codes, decimal, O
 use Rattle.refusal.specs.declared.Place.{Place}
 use Rattle.refusal.specs.declared.Place.TheVariants.{Word, Byte}
 use Rattle.refusal.specs.declared.ImageFault.{ImageFault}
+use Rattle.refusal.specs.Numbers.{number_of}
 use Rattle.refusal.specs.declared.Refusal.{Refusal}
+use Rattle.refusal.specs.declared.Refused.{Refused}
 use Rattle.refusal.specs.declared.Refusal.TheVariants.{WrongPhase, OutsideLimits, BadImage, NoObject, OutOfRange, BadBuffer, NoRoom, NoRow, OtherSize, NothingThere, HandlerStands, NotPointer, HeapFull}
 
 abbrev pub place_text : Place → List ℕ
@@ -31,3 +33,10 @@ text_of NothingThere = codes "nothing to leave, raise to or untry"
 text_of HandlerStands = codes "a handler of the running frame still stands"
 text_of (NotPointer r) = root_text r
 text_of HeapFull = codes "the heap is full"
+
+-- a refusal in a line: its number, and its reason in words
+abbrev pub refusal_line : Refusal → List ℕ
+refusal_line e = codes "refused " ++ (decimal (number_of e) ++ (codes ": " ++ text_of e))
+
+abbrev pub refused_text : Refused → List ℕ
+refused_text r = refusal_line r.0

@@ -4,7 +4,7 @@
 
 ghost use Rattle.std.specs.Prelude.{◌≡◌, Some};
 ghost use Rattle.refusal.specs.Numbers.{number_of, fault_of, root_of};
-ghost use Rattle.refusal.specs.Texts.{place_text, fault_text, text_of};
+ghost use Rattle.refusal.specs.Texts.{place_text, fault_text, text_of, refused_text};
 
 use std::fmt;
 
@@ -95,6 +95,20 @@ impl Refusal {
             Refusal::NotPointer { root } => *root,
             _ => None,
         }
+    }
+}
+
+// A refusal as a program tells it: its number, and its reason in words.
+#[derive(Clone, Copy, PartialEq, Eq, Debug)]
+pub struct Refused(pub Refusal);
+
+impl fmt::Display for Refused {
+    ghost output = { λ r. Some (refused_text r) };
+
+    fn fmt<W: fmt::Write>(&self, f: &mut fmt::Formatter<W>) -> fmt::Result {
+        let reason = self.0;
+        let number = reason.number();
+        write!(f, "refused {number}: {reason}")
     }
 }
 

@@ -1,19 +1,10 @@
-use Rattle.std.proofs.Common.{ap, ◌∙◌}
-use mathlib.Core.Path.{fun_ext}
-use Rattle.frame_map.specs.Maps.{entries_below}
-use Rattle.frame_map.proofs.Listing.{listed_table}
-use Rattle.inspect.specs.Reports.{text_of_rows}
+use Rattle.std.proofs.Common.{string_bytes}
+use Rattle.delta_image.specs.Buckets.{DeltaMeans}
+use Rattle.delta_map.specs.Meaning.{rows_of}
+use Rattle.inspect.proofs.ShowLaws.{shown}
 use Rattle.inspect.proofs.inspect_delta.Goals as goal
 
--- the map's rows are the image's, and the list of these is the table that the image was laid out from
-pub returns-in_ok-text-in-Ok : goal.returns-in_ok-text-in-Ok
-returns-in_ok-text-in-Ok c =
-    let m = c.in-Ok.ensures in
-    record {
-      entries = m.entries;
-      means = m.means;
-      told =
-          c.in_ok-text-in-Ok.ensures
-          ∙ ap (λ rows. text_of_rows (entries_below rows 65536)) (fun_ext m.rows)
-          ∙ ap text_of_rows (listed_table m.entries m.means.table);
-    }
+pub returns : goal.returns
+returns c =
+    let m = c.in_ok-map.ensures in
+    shown (DeltaMeans c.args.image.items) (rows_of c.in_ok-map.map) m.entries (string_bytes c.in_ok-rows_text.field-0) m.means m.means.table m.rows c.in_ok-rows_text.ensures

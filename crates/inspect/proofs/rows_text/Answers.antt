@@ -1,4 +1,4 @@
-use Rattle.std.proofs.Common.{◌≡◌, ℕ, List, [], ◌++◌, length, get_or, take, string_bytes, codes, decimal, sym, ap, ◌∙◌, append-nil}
+use Rattle.std.proofs.Common.{◌≡◌, ℕ, List, [], ◌++◌, length, get_or, take, codes, decimal, sym, ap, ◌∙◌, append-nil}
 use Rattle.std.specs.List.{flat_map}
 use Rattle.std.proofs.lemmas.List.{flat_map_more, take_more, take_all}
 use Rattle.frame_map.specs.Maps.{entries_below}
@@ -18,9 +18,7 @@ loop-entry-preserved g c =
     let items : List Entry = c.deref-entry-items.result.now in
     let i : ℕ = c.loop-entry.entry-index in
     let head : List ℕ = decimal c.len-count.result ++ codes " rows\n" in
-    let line : string_bytes c.in_ok-line.line ≡ entry_line (get_or items i past) = c.in_ok-line.ensures.ok in
-    c.in_ok-push_str.ensures.bytes
-    ∙ ap (λ l. string_bytes c.loop-entry.text ++ l) (c.as_str.ensures.value ∙ line)
+    c.in_ok-writeln.ensures.bytes
     ∙ ap (λ l. l ++ entry_line (get_or items i past)) c.loop-entry.invariant
     ∙ flat_map_more entry_line head (take i items) (get_or items i past)
     ∙ ap (λ l. head ++ flat_map entry_line l) (sym (take_more items i past c.loop-entry-test.true))
