@@ -1,8 +1,9 @@
 // Sorted images, good and bad, one case a line: what the check answers.
 #![tactic(auto)]
 
-use anyhow::anyhow;
+use anyhow::bail;
 use frame_map::{FrameMap, entries};
+use refusal::Refused;
 use sorted_map::{ROW_WORDS, SortedMap, check_sorted};
 
 // Point 20, size 3, r9 saved in slot 1, pointer register r0, r8 untouched.
@@ -68,16 +69,9 @@ const ROWS: [(&str, [u32; 5]); 20] = [
 fn show(rt: &HostRuntime, name: &str, image: &[u32]) -> anyhow::Result<()> {
     match check_sorted(image) {
         Ok(rows) => println!(rt; "{name}: {rows} rows")?,
-        Err(reason) => {
-            let number = reason.number();
-            println!(rt; "{name}: refused {number}: {reason}")?;
-        }
+        Err(reason) => println!(rt; "{name}: {}", Refused(reason))?,
     }
     Ok(())
-}
-
-fn show_row(rt: &HostRuntime, name: &str, row: [u32; 5]) -> anyhow::Result<()> {
-    show(rt, name, &row)
 }
 
 // An image of `rows` rows of size 1 at points first, first + step, ..
@@ -113,9 +107,7 @@ fn cuts(rt: &HostRuntime) -> anyhow::Result<()> {
     let mut two = ladder(rt, 2, 1, 1)?;
     two.push(GOOD[0])?;
     show(rt, "two rows and a word", two.as_slice())?;
-    two.push(GOOD[1])?;
-    two.push(GOOD[2])?;
-    two.push(GOOD[3])?;
+    two.extend_from_slice(&GOOD[1..4])?;
     show(rt, "two rows and four words", two.as_slice())?;
     two.push(GOOD[4])?;
     show(rt, "three rows", two.as_slice())
@@ -124,10 +116,9 @@ fn cuts(rt: &HostRuntime) -> anyhow::Result<()> {
 // Asks for some points, good and bad.
 fn lookups(rt: &HostRuntime) -> anyhow::Result<()> {
     let image = ladder(rt, 1024, 1, 64)?;
-    let Ok(made) = SortedMap::new(image) else {
-        return Err(anyhow!("the ladder is no good image"));
+    let Ok(mut map) = SortedMap::new(image) else {
+        bail!("the ladder is no good image");
     };
-    let mut map = made;
     for point in [0u32, 1, 2, 64, 65, 65_473, 65_535, 65_537, 4_294_967_295] {
         let found = map.lookup(point).is_some();
         println!(rt; "point {point}: {found}")?;
@@ -145,7 +136,7 @@ fn lookups(rt: &HostRuntime) -> anyhow::Result<()> {
 
 fn main(rt: HostRuntime) -> anyhow::Result<()> {
     for (name, row) in ROWS {
-        show_row(&rt, name, row)?;
+        show(&rt, name, &row)?;
     }
     orders(&rt)?;
     cuts(&rt)?;

@@ -1,6 +1,8 @@
 // A small heap, before and after a collection: objects that share, a cycle, and garbage.
+use crate::failure::Failure;
 use heap::Heap;
 use refusal::Refusal;
+use std::io;
 
 // Words in each of the heap's buffers.
 const WORDS: usize = 32;
@@ -24,43 +26,21 @@ fn fill(heap: &mut Heap) -> Result<[u32; 3], Refusal> {
     Ok([second, 0, shared])
 }
 
-fn show(rt: &HostRuntime, when: &str, heap: &Heap, roots: &[u32]) -> anyhow::Result<()> {
+fn show(rt: &HostRuntime, when: &str, heap: &Heap, roots: &[u32]) -> io::Result<()> {
     let used = heap.used();
     let words = heap.words();
     println!(rt; "{when}: roots {roots:?}")?;
-    println!(rt; "{when}: used {used}: {words:?}")?;
-    Ok(())
+    println!(rt; "{when}: used {used}: {words:?}")
 }
 
-fn collected(rt: &HostRuntime, heap: &mut Heap) -> anyhow::Result<Result<(), Refusal>> {
-    let mut roots = match fill(heap) {
-        Ok(roots) => roots,
-        Err(reason) => return Ok(Err(reason)),
-    };
-    show(rt, "before", heap, &roots)?;
-    if let Err(reason) = heap.collect(&mut roots) {
-        return Ok(Err(reason));
-    }
-    show(rt, "after", heap, &roots)?;
-    Ok(Ok(()))
-}
-
-// Whether all went well.
-pub(crate) fn heap_demo(rt: &HostRuntime) -> anyhow::Result<bool> {
+pub(crate) fn heap_demo(rt: &HostRuntime) -> Result<(), Failure> {
     let memory = rt.alloc();
     let words = vec![in memory; 0u32; WORDS]?;
     let idle = vec![in memory; 0u32; WORDS]?;
     let starts = vec![in memory; false; WORDS]?;
-    let answer = match Heap::new(words, idle, starts) {
-        Ok(mut heap) => collected(rt, &mut heap)?,
-        Err(reason) => Err(reason),
-    };
-    match answer {
-        Ok(()) => Ok(true),
-        Err(reason) => {
-            let number = reason.number();
-            println!(rt; "refused {number}: {reason}")?;
-            Ok(false)
-        }
-    }
+    let mut heap = Heap::new(words, idle, starts)?;
+    let mut roots = fill(&mut heap)?;
+    show(rt, "before", &heap, &roots)?;
+    heap.collect(&mut roots)?;
+    Ok(show(rt, "after", &heap, &roots)?)
 }

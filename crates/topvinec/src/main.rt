@@ -2,9 +2,12 @@
 #![tactic(auto)]
 
 mod demo;
+mod failure;
 
 use demo::heap_demo;
+use failure::Failure;
 use inspect::{inspect_delta, inspect_sorted};
+use refusal::Refused;
 use std::io::Read;
 use std::process::ExitCode;
 use std::{env, fs, io};
@@ -24,48 +27,62 @@ and a wrong command line end with status 1.
 Example: topvinec inspect sorted examples/three_rows.map
 ";
 
+// An image's kind.
+#[derive(Clone, Copy)]
+enum Kind {
+    Delta,
+    Sorted,
+}
+
 // What the command line asks for.
 #[derive(Drop)]
 enum Command {
     Help,
     HeapDemo,
-    InspectDelta(String),
-    InspectSorted(String),
-    // No command: why not.
-    Wrong(&'static str),
+    Inspect(Kind, String),
 }
 
-// The command after `inspect`: the image's kind, then the file.
-fn parse_inspect(kind: Option<String>, file: Option<String>) -> Command {
-    let Some(kind) = kind else {
-        return Command::Wrong("inspect what? (inspect sorted FILE, or inspect delta FILE)");
-    };
-    let Some(file) = file else {
-        return Command::Wrong("which file? (inspect sorted FILE, or inspect delta FILE)");
-    };
-    match kind.as_str() {
-        "delta" => Command::InspectDelta(file),
-        "sorted" => Command::InspectSorted(file),
-        _ => Command::Wrong("no such kind of image (inspect sorted FILE, or inspect delta FILE)"),
+impl TryFrom<&str> for Kind {
+    type Error = Failure;
+
+    fn try_from(word: &str) -> Result<Kind, Failure> {
+        match word {
+            "delta" => Ok(Kind::Delta),
+            "sorted" => Ok(Kind::Sorted),
+            _ => Err(Failure::WrongUse(
+                "no such kind of image (inspect sorted FILE, or inspect delta FILE)",
+            )),
+        }
     }
 }
 
-fn parse(rt: &HostRuntime) -> io::Result<Command> {
+// The command after `inspect`: the image's kind, then the file.
+fn parse_inspect(kind: Option<String>, file: Option<String>) -> Result<Command, Failure> {
+    let kind = kind.ok_or(Failure::WrongUse(
+        "inspect what? (inspect sorted FILE, or inspect delta FILE)",
+    ))?;
+    let file = file.ok_or(Failure::WrongUse(
+        "which file? (inspect sorted FILE, or inspect delta FILE)",
+    ))?;
+    Ok(Command::Inspect(Kind::try_from(kind.as_str())?, file))
+}
+
+fn parse(rt: &HostRuntime) -> Result<Command, Failure> {
     let mut words = env::args(rt)?;
     let _program = words.next();
-    let Some(verb) = words.next() else {
-        return Ok(Command::Wrong("no command (try: topvinec help)"));
-    };
+    let verb = words
+        .next()
+        .ok_or(Failure::WrongUse("no command (try: topvinec help)"))?;
     let first = words.next();
     let second = words.next();
     if words.next().is_some() {
-        return Ok(Command::Wrong("too many words (try: topvinec help)"));
+        return Err(Failure::WrongUse("too many words (try: topvinec help)"));
     }
     match verb.as_str() {
         "heap-demo" => Ok(Command::HeapDemo),
         "help" => Ok(Command::Help),
-        "inspect" => Ok(parse_inspect(first, second)),
-        _ => Ok(Command::Wrong("no such command (try: topvinec help)")),
+        "inspect" => parse_inspect(first, second),
+        _ => Err(Failure::WrongUse("no such command (try: topvinec help)")),
     }
 }
 
@@ -79,59 +96,41 @@ fn read_file(rt: &HostRuntime, name: &str) -> io::Result<Vec<u8>> {
     fs::read(rt, name)
 }
 
-// A file's bytes, or a message to standard error where it cannot be read.
-fn read_or_tell(rt: &HostRuntime, name: &str) -> anyhow::Result<Option<Vec<u8>>> {
-    match read_file(rt, name) {
-        Ok(bytes) => Ok(Some(bytes)),
-        Err(e) => {
-            eprintln!(rt; "topvinec: cannot read {name}: {e}")?;
-            Ok(None)
-        }
+// Prints an image's rows.
+fn show(rt: &HostRuntime, kind: Kind, name: String) -> Result<(), Failure> {
+    let image = match read_file(rt, name.as_str()) {
+        Ok(image) => image,
+        Err(reason) => return Err(Failure::Unreadable { name, reason }),
+    };
+    let text = match kind {
+        Kind::Delta => inspect_delta(rt.alloc(), image)?,
+        Kind::Sorted => inspect_sorted(rt.alloc(), image.as_slice())?,
+    };
+    Ok(rt.print(text.as_str())?)
+}
+
+fn run(rt: &HostRuntime) -> Result<(), Failure> {
+    match parse(rt)? {
+        Command::Help => Ok(rt.print(HELP)?),
+        Command::HeapDemo => heap_demo(rt),
+        Command::Inspect(kind, name) => show(rt, kind, name),
     }
 }
 
-fn show_sorted(rt: &HostRuntime, name: &str) -> anyhow::Result<bool> {
-    let Some(bytes) = read_or_tell(rt, name)? else {
-        return Ok(false);
-    };
-    let report = inspect_sorted(rt.alloc(), bytes.as_slice())?;
-    rt.print(report.text.as_str())?;
-    Ok(report.accepted)
-}
-
-fn show_delta(rt: &HostRuntime, name: &str) -> anyhow::Result<bool> {
-    let Some(bytes) = read_or_tell(rt, name)? else {
-        return Ok(false);
-    };
-    let report = inspect_delta(rt.alloc(), bytes)?;
-    rt.print(report.text.as_str())?;
-    Ok(report.accepted)
-}
-
-// Whether all went well.
-fn run(rt: &HostRuntime) -> anyhow::Result<bool> {
-    match parse(rt)? {
-        Command::Help => {
-            rt.print(HELP)?;
-            Ok(true)
-        }
-        Command::HeapDemo => heap_demo(rt),
-        Command::InspectDelta(name) => show_delta(rt, name.as_str()),
-        Command::InspectSorted(name) => show_sorted(rt, name.as_str()),
-        Command::Wrong(why) => {
-            eprintln!(rt; "topvinec: {why}")?;
-            Ok(false)
-        }
+// Prints a refusal, and hands back what is not one.
+fn tell(rt: &HostRuntime, failure: Failure) -> Result<(), Failure> {
+    match failure {
+        Failure::Refused(reason) => Ok(println!(rt; "{}", Refused(reason))?),
+        other => Err(other),
     }
 }
 
 fn main(rt: HostRuntime) -> ExitCode {
-    match run(&rt) {
-        Ok(true) => ExitCode::SUCCESS,
-        Ok(false) => ExitCode::FAILURE,
-        Err(e) => {
-            let _told = eprintln!(rt; "topvinec: {e}");
-            ExitCode::FAILURE
-        }
+    let Err(failure) = run(&rt) else {
+        return ExitCode::SUCCESS;
+    };
+    if let Err(e) = tell(&rt, failure) {
+        let _told = eprintln!(rt; "topvinec: {e}");
     }
+    ExitCode::FAILURE
 }
