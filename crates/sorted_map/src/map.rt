@@ -7,7 +7,7 @@ ghost use Rattle.sorted_map.specs.Decoding.{all_entries};
 #[derive(Drop)]
 pub struct SortedMap {
     pub(crate) image: Vec<u32>,
-    // How many lookups there were, modulo 2^32.
+    // How many lookups there were, modulo 2^32. Each map counts for itself: a type that counts would need a contract for each of its methods to save one `wrapping_add`.
     pub(crate) count: u32,
     ghost counted: { count < 2 ^ 32 },
     ghost table: { ∥ Table (all_entries image.items) ∥₁ },
