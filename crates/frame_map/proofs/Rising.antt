@@ -1,6 +1,7 @@
 -- Lists of entries whose points rise strictly, and what they have for a point.
 use Rattle.std.proofs.Common.{◌≡◌, ℕ, zero, suc, ◌<◌, ◌≤◌, eqb, List, [], ◌∷◌, ◌++◌, length, Some, None, Option, sym, refl, ap, ◌∙◌, subst, ⊎_elim, arith}
 use Rattle.std.proofs.lemmas.Bool.{cases_eq, cases_order, eq-eqb, ne_eqb, cond-true, cond-false}
+use Rattle.std.proofs.lemmas.Option.{none-some}
 use Rattle.frame_map.specs.Tables.{entry_at, row_for}
 use Rattle.frame_map.specs.declared.row.Entry.{Entry}
 use Rattle.frame_map.specs.declared.row.Row.{Row}
@@ -49,17 +50,14 @@ rises_above low high p (e ∷ es) r l =
     let h = rises_ordered (suc e.point) high es r.1 in
     row_for_tail p e es (λ z. omega arith) ∙ rises_above (suc e.point) high p es r.1 l
 
-some_not_none : (r : Row) → ◌≡◌ {A = Option Row} (Some r) None → ⊥
-some_not_none r e = let z : ◌≡◌ {A = ℕ} 0 1 = cc in omega arith
-
 pub some_same : {A : Type 0} (r s : A) → ◌≡◌ {A = Option A} (Some r) (Some s) → r ≡ s
 some_same r s e = cc
 
 -- a rising list is determined by its rows
 pub determined : (low high low' high' : ℕ) (xs ys : List Entry) → Rises low xs high → Rises low' ys high' → ((p : ℕ) → row_for p xs ≡ row_for p ys) → xs ≡ ys
 determined low high low' high' [] [] r s same = refl
-determined low high low' high' [] (y ∷ ys) r s same = absurd (some_not_none y.row (sym (row_for_head y ys) ∙ sym (same y.point) ∙ row_for_nil y.point))
-determined low high low' high' (x ∷ xs) [] r s same = absurd (some_not_none x.row (sym (row_for_head x xs) ∙ same x.point ∙ row_for_nil x.point))
+determined low high low' high' [] (y ∷ ys) r s same = absurd (none-some y.row (sym (sym (row_for_head y ys) ∙ sym (same y.point) ∙ row_for_nil y.point)))
+determined low high low' high' (x ∷ xs) [] r s same = absurd (none-some x.row (sym (sym (row_for_head x xs) ∙ same x.point ∙ row_for_nil x.point)))
 determined low high low' high' (x ∷ xs) (y ∷ ys) r s same =
     ⊎_elim
     (λ (e : x.point ≡ y.point).
@@ -75,16 +73,16 @@ determined low high low' high' (x ∷ xs) (y ∷ ys) r s same =
     λ i. heads i ∷ tails i)
     (⊎_elim
     (λ (l : x.point < y.point).
-    absurd (some_not_none x.row
-    (sym (row_for_head x xs) ∙ same x.point ∙ row_for_tail x.point y ys (λ z. omega arith) ∙ rises_below (suc y.point) high' x.point ys s.1 (omega arith))))
+    absurd (none-some x.row
+    (sym (sym (row_for_head x xs) ∙ same x.point ∙ row_for_tail x.point y ys (λ z. omega arith) ∙ rises_below (suc y.point) high' x.point ys s.1 (omega arith)))))
     (λ (l : y.point < x.point).
-    absurd (some_not_none y.row
-    (sym (row_for_head y ys) ∙ sym (same y.point) ∙ row_for_tail y.point x xs (λ z. omega arith) ∙ rises_below (suc x.point) high y.point xs r.1 (omega arith)))))
+    absurd (none-some y.row
+    (sym (sym (row_for_head y ys) ∙ sym (same y.point) ∙ row_for_tail y.point x xs (λ z. omega arith) ∙ rises_below (suc x.point) high y.point xs r.1 (omega arith))))))
     (cases_order x.point y.point)
 
 -- what a longer list has
 pub row_for_left : (p : ℕ) (xs ys : List Entry) (r : Row) → row_for p xs ≡ Some r → row_for p (xs ++ ys) ≡ Some r
-row_for_left p [] ys r h = absurd (some_not_none r (sym h ∙ row_for_nil p))
+row_for_left p [] ys r h = absurd (none-some r (sym (sym h ∙ row_for_nil p)))
 row_for_left p (x ∷ xs) ys r h =
     ⊎_elim
     (λ (e : x.point ≡ p). subst (λ q. row_for q (x ∷ (xs ++ ys)) ≡ Some r) e (row_for_head x (xs ++ ys) ∙ sym (row_for_head x xs) ∙ ap (λ q. row_for q (x ∷ xs)) e ∙ h))
@@ -95,7 +93,7 @@ pub row_for_right : (p : ℕ) (xs ys : List Entry) → row_for p xs ≡ None →
 row_for_right p [] ys h = refl
 row_for_right p (x ∷ xs) ys h =
     ⊎_elim
-    (λ (e : x.point ≡ p). absurd (some_not_none x.row (sym (row_for_head x xs) ∙ ap (λ q. row_for q (x ∷ xs)) e ∙ h)))
+    (λ (e : x.point ≡ p). absurd (none-some x.row (sym (sym (row_for_head x xs) ∙ ap (λ q. row_for q (x ∷ xs)) e ∙ h))))
     (λ (ne : x.point ≡ p → ⊥). row_for_tail p x (xs ++ ys) ne ∙ row_for_right p xs ys (sym (row_for_tail p x xs ne) ∙ h))
     (cases_eq x.point p)
 

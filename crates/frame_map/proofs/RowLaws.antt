@@ -4,6 +4,7 @@ use lib.Bits.{bit_and, bit_or}
 use Rattle.std.proofs.lemmas.Nat.{pow_pos, div-add-mod'}
 use Rattle.std.proofs.lemmas.Bool.{cases_eq, cases_lt}
 use Rattle.std.proofs.lemmas.List.{get_or_past}
+use borrow.Author.Count.{below_more}
 use Rattle.words.specs.Bits.{Bit}
 use Rattle.words.proofs.BitLaws.{bit_below, bits_below, bit_put_same, bit_put_kept, bit_put_other, bit_and_from, bit_and_left, bit_and_right, no_bits, bit_of_zero, bit_shr, shr_bit, bit_low}
 use Rattle.frame_map.specs.Rows.{Slot, Slotted, Masked, Saved, saved_slot}
@@ -59,28 +60,24 @@ fair_none r = record {
   only = λ b h. inl h;
 }
 
--- what holds below k, and at k, holds below k + 1
-below_next : (P : ℕ → Type 0) (k : ℕ) → ((j : ℕ) → j < k → P j) → P k → (j : ℕ) → j < k + 1 → P j
-below_next P k f p j l = ⊎_elim (λ (e : j ≡ k). subst P (sym e) p) (λ (ne : j ≡ k → ⊥). f j (omega arith)) (cases_eq j k)
-
 pub fair_skip : (r : Row) (k taken : ℕ) → Fair r k taken → saved_slot r k ≡ 0 → Fair r (k + 1) taken
 fair_skip r k taken f z = record {
-  inside = below_next (λ j. 0 < saved_slot r j → Slot r (saved_slot r j)) k f.inside (λ p. absurd (omega arith));
-  apart = λ i j h l. below_next (λ j. i < j → 0 < saved_slot r j → saved_slot r i ≡ saved_slot r j → ⊥) k (λ j l h. f.apart i j h l) (λ h p. absurd (omega arith)) j l h;
-  plain = below_next (λ j. 0 < saved_slot r j → Bit r.slots (saved_slot r j) → ⊥) k f.plain (λ p. absurd (omega arith));
+  inside = below_more (λ j. 0 < saved_slot r j → Slot r (saved_slot r j)) k f.inside (λ p. absurd (omega arith));
+  apart = λ i j h l. below_more (λ j. i < j → 0 < saved_slot r j → saved_slot r i ≡ saved_slot r j → ⊥) k (λ j l h. f.apart i j h l) (λ h p. absurd (omega arith)) j l h;
+  plain = below_more (λ j. 0 < saved_slot r j → Bit r.slots (saved_slot r j) → ⊥) k f.plain (λ p. absurd (omega arith));
   has_slots = f.has_slots;
-  has_saved = below_next (λ j. 0 < saved_slot r j → Bit taken (saved_slot r j)) k f.has_saved (λ p. absurd (omega arith));
+  has_saved = below_more (λ j. 0 < saved_slot r j → Bit taken (saved_slot r j)) k f.has_saved (λ p. absurd (omega arith));
   only = λ b h. ⊎_elim (λ (s : Bit r.slots b). inl s) (λ (s : (j : ℕ) × (j < k) × (saved_slot r j ≡ b)). inr (s.0, omega arith, s.2)) (f.only b h);
 }
 
 pub fair_take : (r : Row) (k taken : ℕ) → Fair r k taken → 0 < saved_slot r k → saved_slot r k < r.size → (Bit taken (saved_slot r k) → ⊥) → Fair r (k + 1) (bit_or taken (2 ^ saved_slot r k))
 fair_take r k taken f pos small free = record {
-  inside = below_next (λ j. 0 < saved_slot r j → Slot r (saved_slot r j)) k f.inside (λ p. (p, small));
-  apart = λ i j h l. below_next (λ j. i < j → 0 < saved_slot r j → saved_slot r i ≡ saved_slot r j → ⊥) k (λ j l h. f.apart i j h l)
+  inside = below_more (λ j. 0 < saved_slot r j → Slot r (saved_slot r j)) k f.inside (λ p. (p, small));
+  apart = λ i j h l. below_more (λ j. i < j → 0 < saved_slot r j → saved_slot r i ≡ saved_slot r j → ⊥) k (λ j l h. f.apart i j h l)
       (λ h p e. free (subst (λ x. Bit taken x) e (f.has_saved i h (omega arith)))) j l h;
-  plain = below_next (λ j. 0 < saved_slot r j → Bit r.slots (saved_slot r j) → ⊥) k f.plain (λ p b. free (f.has_slots (saved_slot r k) b));
+  plain = below_more (λ j. 0 < saved_slot r j → Bit r.slots (saved_slot r j) → ⊥) k f.plain (λ p b. free (f.has_slots (saved_slot r k) b));
   has_slots = λ b h. bit_put_kept taken (saved_slot r k) b (f.has_slots b h);
-  has_saved = below_next (λ j. 0 < saved_slot r j → Bit (bit_or taken (2 ^ saved_slot r k)) (saved_slot r j)) k
+  has_saved = below_more (λ j. 0 < saved_slot r j → Bit (bit_or taken (2 ^ saved_slot r k)) (saved_slot r j)) k
       (λ j l p. bit_put_kept taken (saved_slot r k) (saved_slot r j) (f.has_saved j l p))
       (λ p. bit_put_same taken (saved_slot r k));
   only = λ b h.

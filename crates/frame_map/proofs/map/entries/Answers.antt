@@ -26,8 +26,3 @@ loop-point-preserved g c =
       ],
       omega (arith, c.lookup.ensures.counted, c.loop-point.invariant.2),
     )
-
-pub returns : goal.returns
-returns g c =
-    let e : c.loop-point.point ≡ 65536 = omega arith in
-    record { same = c.loop-point.invariant.0; counted = omega (arith, c.loop-point.invariant.2); listed = c.loop-point.invariant.1 ∙ ap (λ n. entries_below (g.M.FrameMap.rows c.args.map.now) n) e }

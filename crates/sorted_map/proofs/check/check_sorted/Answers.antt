@@ -1,9 +1,9 @@
 use Rattle.std.proofs.Common.{◌≡◌, ℕ, List, ◌+◌, ◌*◌, ◌/◌, ◌^◌, ◌<◌, ◌≤◌, length, sym, refl, ap, ◌∙◌, subst, add-one, arith}
-use Rattle.std.proofs.lemmas.Bool.{eqb-false, eqb-true}
+use Rattle.std.proofs.lemmas.Bool.{eqb-false}
 use Rattle.sorted_map.specs.Checking.{Follows, point_before}
 use Rattle.sorted_map.specs.Decoding.{entry_in}
 use Rattle.sorted_map.specs.Layout.{GoodRows}
-use Rattle.sorted_map.proofs.ImageLaws.{good_none, good_more, good_follows, good_means, good_long, point_fits, told}
+use Rattle.sorted_map.proofs.ImageLaws.{good_none, good_more, good_follows, good_long, point_fits, told}
 use Rattle.sorted_map.proofs.PieceLaws.{piece_entry, piece_follows, follows_piece}
 use Rattle.sorted_map.proofs.check.check_sorted.Goals as goal
 use Rattle.sorted_map.proofs.check.check_sorted.Goals.{then-i-ge-MAX_ROWS-via-then-i-ge-MAX_ROWS, then-i-ge-MAX_ROWS-via-else-i-ge-MAX_ROWS+then-not-follows}
@@ -49,14 +49,3 @@ returns-then-not-is_empty c =
     told c.args.image.now c.fault-then-not-is_empty.result n c.fault-then-not-is_empty.ensures
     (subst (λ n. GoodRows c.args.image.now n) all c.loop-i.invariant.0) (omega (arith, c.as_chunks.ensures.front_len, c.as_chunks.ensures.back_len))
     (λ g. omega (arith, good_long c.args.image.now (n + 1) g, c.as_chunks.ensures.front_len))
-
-pub returns : goal.returns
-returns c =
-    let n : ℕ = length c.as_chunks.result.0.now in
-    let all : c.loop-i.i ≡ n = omega arith in
-    let none : length c.as_chunks.result.1.now ≡ 0 = eqb-true (length c.as_chunks.result.1.now) 0 (sym c.if-not-is_empty.ensures) in
-    record {
-      entries = c.loop-i.invariant.0.entries;
-      many = c.loop-i.invariant.0.many ∙ all;
-      means = good_means c.args.image.now c.loop-i.i c.loop-i.invariant.0 (omega (arith, c.as_chunks.ensures.front_len, c.as_chunks.ensures.back_len));
-    }

@@ -1,7 +1,6 @@
 use Rattle.std.proofs.Common.{◌≡◌, ◌/◌, length, subst, arith}
 use Rattle.std.proofs.lemmas.Result.{err_from_is_err_and}
 use Rattle.sorted_map.specs.Layout.{Means, RefusedImage}
-use Rattle.sorted_map.specs.Meaning.{MadeFrom}
 use Rattle.sorted_map.proofs.FileLaws.{bad_words, stray_bytes}
 use Rattle.sorted_map.proofs.SearchLaws.{means_long}
 use Rattle.sorted_map.proofs.load.load_sorted.Goals as goal
@@ -18,9 +17,3 @@ returns-then-bytes-ne0 c =
     let many : length made.entries ≡ c.len-rows.result / 5 = omega (arith, means_long c.in_ok-words.words.items made.entries made.means, c.len-rows.ensures, c.in_ok-words.words.ok.0) in
     stray_bytes c.args.bytes.now made.entries (c.len-rows.result / 5) c.fault.result
     (subst (λ ws. Means ws made.entries) c.in_ok-words.ensures made.means) many c.fault.ensures c.if-bytes-ne0.true
-
-pub returns : goal.returns
-returns c = record {
-  whole = c.if-bytes-ne0.false;
-  made = subst (λ ws. MadeFrom ws c.in_ok-map.map) c.in_ok-words.ensures c.in_ok-map.ensures;
-}

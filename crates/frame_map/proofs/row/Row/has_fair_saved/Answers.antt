@@ -1,8 +1,8 @@
-use Rattle.std.proofs.Common.{◌≡◌, ◌+◌, ◌^◌, ◌<◌, length, sym, subst, ⊎_elim, arith, rules}
+use Rattle.std.proofs.Common.{◌≡◌, ◌+◌, ◌^◌, ◌<◌, sym, subst, ⊎_elim}
 use lib.Bits.{bit_or}
 use Rattle.words.specs.Bits.{Bit}
 use Rattle.frame_map.specs.Rows.{saved_slot}
-use Rattle.frame_map.proofs.RowLaws.{Fair, fair_skip, fair_take, saved_from}
+use Rattle.frame_map.proofs.RowLaws.{Fair, fair_skip, fair_take}
 use Rattle.frame_map.proofs.row.Row.has_fair_saved.Goals as goal
 
 pub loop-slot-preserved : goal.loop-slot-preserved
@@ -13,9 +13,3 @@ loop-slot-preserved c =
     (λ (t : (0 < saved_slot c.args.self.now c.loop-slot.slot-index) × (saved_slot c.args.self.now c.loop-slot.slot-index < c.args.self.now.size) × (Bit c.loop-slot.taken (saved_slot c.args.self.now c.loop-slot.slot-index) → ⊥) × (c.in-Some.more ≡ bit_or c.loop-slot.taken (2 ^ saved_slot c.args.self.now c.loop-slot.slot-index))).
     subst (λ x. Fair c.args.self.now (c.loop-slot.slot-index + 1) x) (sym t.3) (fair_take c.args.self.now c.loop-slot.slot-index c.loop-slot.taken c.loop-slot.invariant t.0 t.1 t.2))
     c.in-Some.ensures
-
-pub returns : goal.returns
-returns c =
-    let eight : length c.args.self.now.saved ≡ 8 = search rules in
-    let e : c.loop-slot.slot-index ≡ 8 = omega arith in
-    saved_from c.args.self.now c.loop-slot.taken eight (subst (λ k. Fair c.args.self.now k c.loop-slot.taken) e c.loop-slot.invariant)
