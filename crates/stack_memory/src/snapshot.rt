@@ -1,5 +1,6 @@
 // A memory that begins as an image and keeps the image as it is: what is written goes into a buffer of words,
 // and a bit map tells which words were written.
+// Image, buffer and bit map are three buffers, and no list of cells: each is the caller's, the image stays as it was given, and nothing is allocated.
 ghost use Rattle.std.specs.Prelude.{◌≡◌, ℕ, ◌+◌, ◌/◌, ◌%◌, ◌^◌, ◌<◌, ◌≤◌, vec_len, slice_index};
 
 mod calls;
