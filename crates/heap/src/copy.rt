@@ -46,6 +46,7 @@ impl Halves {
     }
 
     // Forwards the pointer fields of the copied object whose header stands at `scan`.
+    // By index, since forwarding a field writes to the buffer that the fields stand in.
     fn scan_object(&mut self, scan: usize)
         requires { Scannable (moving self.old) scan }
         ensures { (s : Space) (roots ps : List ℕ) (k : ℕ) → Scanning s roots (moving self.old) scan ps k → k < length ps → Scanned s roots ps (moving self.new) (scan + size_in (slice_index self.old.idle.items scan)) (k + 1) }
@@ -57,7 +58,7 @@ impl Halves {
         }
     }
 
-    // Scans every object of the copy in turn, those too that move meanwhile.
+    // Scans every object of the copy in turn, those too that move meanwhile, so by an index up to an end that rises.
     fn scan_all(&mut self)
         requires { Unscanned (moving self.old) }
         ensures { (s : Space) (roots ps : List ℕ) → Scanning s roots (moving self.old) 0 ps 0 → Finished s roots ps (moving self.new) }

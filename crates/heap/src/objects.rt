@@ -21,7 +21,7 @@ impl Heap {
     pub fn new(first: Vec<u32>, second: Vec<u32>, starts: Vec<bool>) -> Result<Heap, Refusal>
         ensures { NewAnswer (vec_len first) (vec_len second) (vec_len starts) result }
     {
-        if first.len() < LEAST || first.len() > MOST {
+        if !(LEAST..=MOST).contains(&first.len()) {
             return Err(Refusal::OutsideLimits);
         }
         if second.len() != first.len() || starts.len() != first.len() {

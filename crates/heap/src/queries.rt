@@ -25,7 +25,7 @@ impl Heap {
         ensures value { result.now ≡ take (content self.now).used (content self.now).words }
         ensures gapless { Gapless (content self.now) }
     {
-        &self.halves.words.as_slice()[0..self.halves.used]
+        &self.halves.words[..self.halves.used]
     }
 
     // Whether a word is an object's place.

@@ -4,12 +4,13 @@ use Rattle.std.specs.List.{flat_map}
 use Rattle.std.proofs.lemmas.Bool.{cases_eq, cases_lt, cases_Bool, cases_order}
 use Rattle.std.proofs.lemmas.List.Sums.{fold_push}
 use Rattle.std.proofs.lemmas.List.{get_or-set_same, get_or-set_other, length-set, length_push, get_or_append_left, get_or_push, take-append-le, take_all, take_more, length-take-le, length-drop, get_or-take, get_or-drop}
+use Rattle.std.proofs.lemmas.Grind.{flat_map-append}
 use Rattle.heap_model.specs.Objects.{Space, refs, size, header, Place, Pointer, Sound}
 use Rattle.heap_model.specs.Live.{Member, pointers, mentions}
 use Rattle.heap_model.specs.Packing.{span}
 use Rattle.heap_model.specs.Moving.{Buffers, buffers, with_word, has, noted, firsts, base, Renamed, Moving, Early, Rooting, Scanning, Fielding}
 use Rattle.heap_model.proofs.Firsts.{has_member, has_not, noted_zero, noted_had, noted_new, member_front}
-use Rattle.heap_model.proofs.Listings.{joined_append, member_back, member_joined}
+use Rattle.heap_model.proofs.Listings.{member_back, member_joined}
 use Rattle.heap_model.proofs.Spans.{base_more, base_rises, base_ends, one_packed, renamed-push, span_none}
 use Rattle.heap_model.proofs.Copying.{moving_none, moving_on, moving_field}
 use Rattle.heap_model.proofs.Changes.{pointer_at}
@@ -192,7 +193,7 @@ fielding_all s roots buf scan ps k j f jl scan' e =
           f.whole
           ∙ ap firsts (ap (λ z. mentions s roots (take k ps) ++ z) (take_all j (pointers s p) (omega (arith, length_pointers s p fit)))
           ∙ append_assoc roots (flat_map (pointers s) (take k ps)) (pointers s p)
-          ∙ ap (λ z. roots ++ z) (ap (λ z. flat_map (pointers s) (take k ps) ++ z) (sym (append-nil (pointers s p))) ∙ sym (joined_append (pointers s) (take k ps) (p ∷ [])) ∙ ap (λ z. flat_map (pointers s) z) (sym (take_more ps k 0 f.within))));
+          ∙ ap (λ z. roots ++ z) (ap (λ z. flat_map (pointers s) (take k ps) ++ z) (sym (append-nil (pointers s p))) ∙ sym (flat_map-append (pointers s) (take k ps) (p ∷ [])) ∙ ap (λ z. flat_map (pointers s) z) (sym (take_more ps k 0 f.within))));
       within = omega (arith, f.within);
       at = e ∙ sym (base_more s ps k f.within);
     }

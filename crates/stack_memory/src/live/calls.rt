@@ -13,7 +13,7 @@ impl LiveMemory {
     pub fn new(words: Vec<u32>) -> Result<LiveMemory, Refusal>
         ensures { MatchResult result (MadeLive words.items) (NoLive words.items) }
     {
-        if words.is_empty() || words.len() > MOST_WORDS {
+        if !(1..=MOST_WORDS).contains(&words.len()) {
             return Err(Refusal::OutsideLimits);
         }
         Ok(LiveMemory { cells: words })

@@ -23,7 +23,7 @@ impl SnapshotMemory {
         ensures { MatchResult result (MadeSnapshot image.items buffer.items written.items) (NoSnapshot image.items buffer.items written.items) }
     {
         let length = image.len() / 4;
-        if image.len() % 4 != 0 || length == 0 || length > MOST_WORDS {
+        if image.len() % 4 != 0 || !(1..=MOST_WORDS).contains(&length) {
             return Err(Refusal::OutsideLimits);
         }
         let map_length = length.div_ceil(32);
@@ -90,6 +90,7 @@ impl StackMemory for SnapshotMemory {
         if index >= self.len() {
             return Err(Refusal::OutOfRange);
         }
+        // By index and not by `get_mut`: the range is the image's, and the buffer may be longer.
         self.buffer[index] = word;
         self.written[index / 32] |= 1 << (index % 32);
         Ok(())
