@@ -2,7 +2,6 @@
 ghost use Rattle.std.specs.Prelude.{MatchResult};
 ghost use Rattle.stack_memory.specs.Making.{MadeLive, NoLive};
 ghost use Rattle.stack_memory.specs.Meaning.{live_words};
-ghost use Rattle.std.proofs.Common.{arith};
 
 use super::LiveMemory;
 use crate::{MOST_WORDS, StackMemory};
@@ -23,9 +22,9 @@ impl LiveMemory {
 impl StackMemory for LiveMemory {
     ghost words = { live_words };
 
-    ghost some = { λ m. omega (arith, m.some, m.cells.ok.0) };
+    ghost some = { λ m. m.fitting.some };
 
-    ghost few = { λ m. omega (arith, m.few, m.cells.ok.0) };
+    ghost few = { λ m. m.fitting.few };
 
     ghost small = { λ m. m.small };
 

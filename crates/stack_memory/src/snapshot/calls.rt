@@ -65,9 +65,9 @@ impl StackMemory for SnapshotMemory {
     ghost words = { snapshot_words };
 
     // The sizes that the parts keep bound the words.
-    ghost some = { λ m. omega (arith, length_snapshot m, m.some) };
+    ghost some = { λ m. omega (arith, length_snapshot m, m.imaging.fitting.some, m.image.ok.0) };
 
-    ghost few = { λ m. omega (arith, length_snapshot m, m.few) };
+    ghost few = { λ m. omega (arith, length_snapshot m, m.imaging.fitting.few, m.image.ok.0) };
 
     ghost small = { λ m. words_now_small m.image.items m.buffer.items m.written.items m.image_small m.buffer_small };
 

@@ -13,7 +13,7 @@ returns c =
     let m = c.args.self.now in
     let i : ℕ = c.args.index in
     let in_image : i < length (vec_items m.image) / 4 = omega (arith, m.image.ok.0, length_snapshot m, c.len.ensures) in
-    let in_bits : i / 32 < length (vec_items m.written) = omega (arith, m.mapped, m.image.ok.0, m.written.ok.0) in
+    let in_bits : i / 32 < length (vec_items m.written) = omega (arith, m.serving.mapped) in
     let mask : c.index_mut-2.result.now ≡ get_or (vec_items m.written) (i / 32) 0 = get_or_read (vec_items m.written) (i / 32) c.index_mut-2.result.now in_bits c.index_mut-2.ensures.value 0 in
     let put : set (vec_items m.written) (i / 32) (bit_or c.index_mut-2.result.now ((1 * 2 ^ (i % 32)) % 2 ^ 32)) ≡ with_bit (vec_items m.written) i
     = ap (λ x. set (vec_items m.written) (i / 32) (bit_or x ((1 * 2 ^ (i % 32)) % 2 ^ 32))) mask
@@ -23,7 +23,7 @@ returns c =
         inside = omega (arith, length_snapshot m, c.len.ensures);
         words_after = ap (λ bits. words_now (vec_items m.image) (set (vec_items m.buffer) i c.args.word) bits) put
             ∙ words_now_put (vec_items m.image) (vec_items m.buffer) (vec_items m.written) i c.args.word in_image
-            (omega (arith, m.roomy, m.image.ok.0, m.buffer.ok.0)) (omega (arith, m.mapped, m.image.ok.0, m.written.ok.0));
+            m.serving.roomy m.serving.mapped;
       };
       parts = record { image_kept = refl; word_put = refl; bit_put = put };
     }
