@@ -1,1 +1,1 @@
-mod Soundness
+mod Writes

@@ -44,6 +44,10 @@ FieldRefused s p j e = ((e ≡ NoObject) × (Place s p → ⊥)) ⊎ ((e ≡ Out
 abbrev pub Field : Space → ℕ → ℕ → Type 0
 Field s p j = Place s p × (j < refs s p + plain s p)
 
+-- then it stands at index p + j
+abbrev pub FindAnswer : Heap → ℕ → ℕ → Result ℕ Refusal → Type 0
+FindAnswer h p j r = MatchResult r (λ at. Field (content h) p j × (at ≡ p + j)) (λ e. FieldRefused (content h) p j e)
+
 abbrev pub LoadAnswer : Heap → ℕ → ℕ → Result ℕ Refusal → Type 0
 LoadAnswer h p j r = MatchResult r (λ v. Field (content h) p j × (v ≡ field (content h) p j)) (λ e. FieldRefused (content h) p j e)
 

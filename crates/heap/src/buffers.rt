@@ -1,21 +1,15 @@
-// An object's header mark and its words in plain buffers.
-ghost use Rattle.std.specs.Prelude.{◌+◌, ◌<◌, ◌≤◌, length};
-ghost use Rattle.heap_model.specs.Steps.{Marked, Laid};
+// An object in a plain buffer: its header's entry, and the entries of its fields behind it.
+ghost use Rattle.std.specs.Prelude.{◌≡◌, ◌+◌, ◌<◌, ◌≤◌, length};
+ghost use Rattle.heap_model.specs.Steps.{Written};
 
-// Marks an object's header at `at`, and no header inside the object.
-pub(crate) fn mark(starts: &mut [bool], at: usize, size: usize)
-    requires { (0 < size) × (at + size ≤ length starts.old) }
-    ensures { Marked starts.old starts.new at size }
+// Writes `first` at `at` and `rest` behind it, into `size` entries in all.
+// With words it lays an object whose fields are 0 (`Laid`); with flags it marks an object's header (`Marked`).
+// `fill` asks that a clone of `rest` is `rest`, which `Copy` alone does not say.
+pub(crate) fn write_object<T: Copy>(entries: &mut [T], at: usize, size: usize, first: T, rest: T)
+    requires fits { (0 < size) × (at + size ≤ length entries.old) }
+    requires copies { T.is_infallible rest × ((y : T) → T.is_clone rest y → y ≡ rest) }
+    ensures { Written entries.old entries.new rest at size first rest }
 {
-    starts[at..at + size].fill(false);
-    starts[at] = true;
-}
-
-// Writes an object's header at `at` and 0 into its fields.
-pub(crate) fn lay(words: &mut [u32], at: usize, header: u32, size: usize)
-    requires { (0 < size) × (at + size ≤ length words.old) }
-    ensures { Laid words.old words.new at header size }
-{
-    words[at..at + size].fill(0);
-    words[at] = header;
+    entries[at..at + size].fill(rest);
+    entries[at] = first;
 }

@@ -3,7 +3,6 @@ ghost use Rattle.std.specs.Option.{MatchOption};
 ghost use Rattle.heap.specs.Content.{content};
 ghost use Rattle.heap.specs.Calls.{Pointers, FirstBad, CollectAnswer};
 
-use crate::copy::copy_live;
 use crate::state::Heap;
 use refusal::Refusal;
 
@@ -12,12 +11,7 @@ impl Heap {
     fn first_bad(&self, roots: &[u32]) -> Option<usize>
         ensures { MatchOption result (Pointers (content self.now) roots.now) (λ i. FirstBad (content self.now) roots.now i) }
     {
-        for (i, word) in roots.iter().enumerate() {
-            if !self.is_pointer(*word) {
-                return Some(i);
-            }
-        }
-        None
+        roots.iter().position(|word| !self.is_pointer(*word))
     }
 
     // Keeps the objects that the root words reach and no others, packed, and renames the root words with them.
@@ -27,8 +21,7 @@ impl Heap {
         if let Some(root) = self.first_bad(roots) {
             return Err(Refusal::NotPointer { root: Some(root) });
         }
-        self.used = copy_live(&mut self.words, &mut self.idle, &mut self.starts, roots);
-        std::mem::swap(&mut self.words, &mut self.idle);
+        self.halves.copy_live(roots);
         Ok(())
     }
 }

@@ -4,6 +4,7 @@
 mod buffers;
 mod collect;
 mod copy;
+mod halves;
 mod objects;
 mod queries;
 mod state;

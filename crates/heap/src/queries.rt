@@ -10,14 +10,14 @@ impl Heap {
     pub fn used(&self) -> usize
         ensures { result ≡ (content self.now).used }
     {
-        self.used
+        self.halves.used
     }
 
     // How many words there is room for.
     pub fn capacity(&self) -> usize
         ensures { result ≡ room self.now }
     {
-        self.words.len()
+        self.halves.words.len()
     }
 
     // The used words: the objects one behind the other, from index 0 and without gaps.
@@ -25,17 +25,14 @@ impl Heap {
         ensures value { result.now ≡ take (content self.now).used (content self.now).words }
         ensures gapless { Gapless (content self.now) }
     {
-        &self.words.as_slice()[0..self.used]
+        &self.halves.words[..self.halves.used]
     }
 
     // Whether a word is an object's place.
     pub fn is_place(&self, word: u32) -> bool
         ensures { MatchBool result (Place (content self.now) word) (Place (content self.now) word → ⊥) }
     {
-        if word == 0 || word as usize > self.used {
-            return false;
-        }
-        self.starts[word as usize - 1]
+        word != 0 && word as usize <= self.halves.used && self.halves.starts[word as usize - 1]
     }
 
     // Whether a word may stand in a pointer field or in a root: it is 0 or an object's place.

@@ -3,20 +3,17 @@ use Rattle.std.proofs.Common.{◌≡◌, ℕ, zero, suc, ◌+◌, ◌-◌, ◌<�
 use Rattle.std.specs.List.{flat_map}
 use Rattle.std.proofs.lemmas.Bool.{cases_eq, cases_lt}
 use Rattle.std.proofs.lemmas.List.{take-append-drop, take_more_same, take_all, get_or-take, length-append, get_or_append_left, get_or-append_right, length-take, get_or-append-add}
+use Rattle.std.proofs.lemmas.Grind.{flat_map-append}
 use Rattle.heap_model.specs.Objects.{Space}
 use Rattle.heap_model.specs.Live.{pointers, mentions, Member, First, Reached, by_root, by_field, Listing}
 use Rattle.heap_model.specs.Moving.{firsts}
 use Rattle.heap_model.proofs.Firsts.{Ordered, ordered_firsts, first_front, member_front, first_there}
 
-pub joined_append : {X A : Type 0} (f : X → List A) (xs ys : List X) → flat_map f (xs ++ ys) ≡ flat_map f xs ++ flat_map f ys
-joined_append f [] ys = refl
-joined_append f (x ∷ xs) ys = ap (λ z. f x ++ z) (joined_append f xs ys) ∙ sym (append_assoc (f x) (flat_map f xs) (flat_map f ys))
-
 -- what the first objects of a list mention comes first
 pub mentions_front : (s : Space) (roots ps : List ℕ) (k : ℕ) → mentions s roots ps ≡ mentions s roots (take k ps) ++ flat_map (pointers s) (drop k ps)
 mentions_front s roots ps k =
     ap (λ z. roots ++ flat_map (pointers s) z) (sym (take-append-drop k ps))
-    ∙ ap (λ z. roots ++ z) (joined_append (pointers s) (take k ps) (drop k ps))
+    ∙ ap (λ z. roots ++ z) (flat_map-append (pointers s) (take k ps) (drop k ps))
     ∙ sym (append_assoc roots (flat_map (pointers s) (take k ps)) (flat_map (pointers s) (drop k ps)))
 
 pub listing_from : (s : Space) (roots ps : List ℕ) → ps ≡ firsts (mentions s roots ps)

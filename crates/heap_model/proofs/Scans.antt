@@ -1,15 +1,16 @@
 -- The order of the list while roots and fields are forwarded.
-use Rattle.std.proofs.Common.{◌≡◌, ℕ, ◌+◌, ◌-◌, ◌<◌, ◌≤◌, Bool, true, false, ◌⊎◌, List, [], ◌∷◌, ◌++◌, length, get_or, take, drop, set, sym, refl, ap, ◌∙◌, subst, inl, inr, ⊎_elim, append_assoc, append-nil, arith}
+use Rattle.std.proofs.Common.{◌≡◌, ℕ, ◌+◌, ◌-◌, ◌<◌, ◌≤◌, true, false, ◌⊎◌, List, [], ◌∷◌, ◌++◌, length, get_or, take, drop, set, sym, refl, ap, ◌∙◌, subst, inl, inr, ⊎_elim, append_assoc, append-nil, arith}
 use Rattle.std.specs.List.{flat_map}
 use Rattle.std.proofs.lemmas.Bool.{cases_eq, cases_lt, cases_Bool, cases_order}
 use Rattle.std.proofs.lemmas.List.Sums.{fold_push}
 use Rattle.std.proofs.lemmas.List.{get_or-set_same, get_or-set_other, length-set, length_push, get_or_append_left, get_or_push, take-append-le, take_all, take_more, length-take-le, length-drop, get_or-take, get_or-drop}
+use Rattle.std.proofs.lemmas.Grind.{flat_map-append}
 use Rattle.heap_model.specs.Objects.{Space, refs, size, header, Place, Pointer, Sound}
 use Rattle.heap_model.specs.Live.{Member, pointers, mentions}
 use Rattle.heap_model.specs.Packing.{span}
-use Rattle.heap_model.specs.Moving.{has, noted, firsts, base, Renamed, Moving, Early, Rooting, Scanning, Fielding}
+use Rattle.heap_model.specs.Moving.{Buffers, buffers, with_word, has, noted, firsts, base, Renamed, Moving, Early, Rooting, Scanning, Fielding}
 use Rattle.heap_model.proofs.Firsts.{has_member, has_not, noted_zero, noted_had, noted_new, member_front}
-use Rattle.heap_model.proofs.Listings.{joined_append, member_back, member_joined}
+use Rattle.heap_model.proofs.Listings.{member_back, member_joined}
 use Rattle.heap_model.proofs.Spans.{base_more, base_rises, base_ends, one_packed, renamed-push, span_none}
 use Rattle.heap_model.proofs.Copying.{moving_none, moving_on, moving_field}
 use Rattle.heap_model.proofs.Changes.{pointer_at}
@@ -75,20 +76,20 @@ module _ (s : Space) (p : ℕ) (fits : p + refs s p ≤ length s.words) where
   slice_index-pointers j l = get_or-take (refs s p) (drop p s.words) j 0 l ∙ get_or-drop p s.words j 0
 
 -- the fields of a listed object lie in the words
-pub fields_fit : (s : Space) (from to : List ℕ) (starts : List Bool) (free scan : ℕ) (ps : List ℕ) → Moving s from to starts free scan ps → (k : ℕ) → k < length ps → get_or ps k 0 + refs s (get_or ps k 0) ≤ length s.words
-fields_fit s from to starts free scan ps m k l =
+pub fields_fit : (s : Space) (buf : Buffers) (scan : ℕ) (ps : List ℕ) → Moving s buf scan ps → (k : ℕ) → k < length ps → get_or ps k 0 + refs s (get_or ps k 0) ≤ length s.words
+fields_fit s buf scan ps m k l =
     let a : Place s (get_or ps k 0) = m.objects k l in
     omega (arith, m.long, m.sound.tiled.inside (get_or ps k 0 - 1) a.1, a.0)
 
 -- the next root word is forwarded
-pub rooting_more : (s : Space) (was roots from to : List ℕ) (starts : List Bool) (free : ℕ) (ps : List ℕ) (i : ℕ) → Rooting s was roots from to starts free ps i → i < length was
-    → (from' to' : List ℕ) (starts' : List Bool) (free' v : ℕ) → Moving s from' to' starts' free' 0 (noted ps (get_or roots i 0)) → Renamed s (noted ps (get_or roots i 0)) (get_or roots i 0) v
-    → Rooting s was (set roots i v) from' to' starts' free' (noted ps (get_or was i 0)) (i + 1)
-rooting_more s was roots from to starts free ps i r l from' to' starts' free' v m n =
+pub rooting_more : (s : Space) (was roots : List ℕ) (buf : Buffers) (ps : List ℕ) (i : ℕ) → Rooting s was roots buf ps i → i < length was
+    → (buf' : Buffers) (v : ℕ) → Moving s buf' 0 (noted ps (get_or roots i 0)) → Renamed s (noted ps (get_or roots i 0)) (get_or roots i 0) v
+    → Rooting s was (set roots i v) buf' (noted ps (get_or was i 0)) (i + 1)
+rooting_more s was roots buf ps i r l buf' v m n =
     let e : get_or roots i 0 ≡ get_or was i 0 = r.rest i (omega arith) in
     let w : ℕ = get_or was i 0 in
     record {
-      moving = subst (λ x. Moving s from' to' starts' free' 0 (noted ps x)) e m;
+      moving = subst (λ x. Moving s buf' 0 (noted ps x)) e m;
       early = early_noted s was ps w r.early (member_front was (flat_map (pointers s) ps) w (i, l, refl));
       whole = ap (λ z. noted z w) r.whole ∙ sym (ap firsts (take_more was i 0 l) ∙ fold_push noted [] (take i was) w);
       long = length-set roots i v ∙ r.long;
@@ -109,9 +110,9 @@ rooting_more s was roots from to starts free ps i r l from' to' starts' free' v 
     n₀ = n
 
 -- with all roots forwarded the scan begins
-pub scanning_none : (s : Space) (was roots from to : List ℕ) (starts : List Bool) (free : ℕ) (ps : List ℕ) (i : ℕ) → Rooting s was roots from to starts free ps i → length was ≤ i
-    → Scanning s was from to starts free 0 ps 0
-scanning_none s was roots from to starts free ps i r l =
+pub scanning_none : (s : Space) (was roots : List ℕ) (buf : Buffers) (ps : List ℕ) (i : ℕ) → Rooting s was roots buf ps i → length was ≤ i
+    → Scanning s was buf 0 ps 0
+scanning_none s was roots buf ps i r l =
     record {
       moving = r.moving;
       early = r.early;
@@ -121,11 +122,11 @@ scanning_none s was roots from to starts free ps i r l =
     }
 
 -- an object's scan begins behind its header
-pub fielding_none : (s : Space) (roots from to : List ℕ) (starts : List Bool) (free scan : ℕ) (ps : List ℕ) (k : ℕ) → Scanning s roots from to starts free scan ps k → k < length ps
-    → Fielding s roots from to starts free (scan + 1) ps k 0
-fielding_none s roots from to starts free scan ps k c l =
+pub fielding_none : (s : Space) (roots : List ℕ) (buf : Buffers) (scan : ℕ) (ps : List ℕ) (k : ℕ) → Scanning s roots buf scan ps k → k < length ps
+    → Fielding s roots buf (scan + 1) ps k 0
+fielding_none s roots buf scan ps k c l =
     record {
-      moving = moving_on s from to starts free scan ps c.moving (scan + 1) (omega arith) (omega (arith, base_ends s ps k l, c.moving.grown, c.at))
+      moving = moving_on s buf scan ps c.moving (scan + 1) (omega arith) (omega (arith, base_ends s ps k l, c.moving.grown, c.at))
           (λ n j nl jl h.
           ⊎_elim
           (λ (e : base s ps n + 1 + j ≡ scan).
@@ -141,20 +142,20 @@ fielding_none s roots from to starts free scan ps k c l =
     }
 
 -- the next pointer field is forwarded
-pub fielding_more : (s : Space) (roots from to : List ℕ) (starts : List Bool) (free scan : ℕ) (ps : List ℕ) (k j : ℕ) → Fielding s roots from to starts free scan ps k j → j < refs s (get_or ps k 0)
-    → (from' to' : List ℕ) (starts' : List Bool) (free' v : ℕ) → Moving s from' to' starts' free' scan (noted ps (get_or to scan 0)) → Renamed s (noted ps (get_or to scan 0)) (get_or to scan 0) v
-    → Fielding s roots from' (set to' scan v) starts' free' (scan + 1) (noted ps (get_or to scan 0)) k (j + 1)
-fielding_more s roots from to starts free scan ps k j f jl from' to' starts' free' v m n =
-    let w : ℕ = get_or to scan 0 in
-    let e : w ≡ get_or s.words (get_or ps k 0 + j) 0 = ap (λ x. get_or to x 0) f.at ∙ f.moving.ahead k j f.within jl (omega (arith, f.at)) in
+pub fielding_more : (s : Space) (roots : List ℕ) (buf : Buffers) (scan : ℕ) (ps : List ℕ) (k j : ℕ) → Fielding s roots buf scan ps k j → j < refs s (get_or ps k 0)
+    → (buf' : Buffers) (v : ℕ) → Moving s buf' scan (noted ps (get_or buf.copy.words scan 0)) → Renamed s (noted ps (get_or buf.copy.words scan 0)) (get_or buf.copy.words scan 0) v
+    → Fielding s roots (with_word buf' scan v) (scan + 1) (noted ps (get_or buf.copy.words scan 0)) k (j + 1)
+fielding_more s roots buf scan ps k j f jl buf' v m n =
+    let w : ℕ = get_or buf.copy.words scan 0 in
+    let e : w ≡ get_or s.words (get_or ps k 0 + j) 0 = ap (λ x. get_or buf.copy.words x 0) f.at ∙ f.moving.ahead k j f.within jl (omega (arith, f.at)) in
     let g : Grows ps (noted ps w) = noted_grows ps w in
     let p : ℕ = get_or ps k 0 in
-    let fit : p + refs s p ≤ length s.words = fields_fit s from to starts free scan ps f.moving k f.within in
+    let fit : p + refs s p ≤ length s.words = fields_fit s buf scan ps f.moving k f.within in
     let q : get_or (noted ps w) k 0 ≡ p = g.gets k f.within in
     let t : take k (noted ps w) ≡ take k ps = g.takes k (omega (arith, f.within)) in
     let here : get_or (pointers s p) j 0 ≡ w = slice_index-pointers s p fit j jl ∙ sym e in
     record {
-      moving = moving_field s from' to' starts' free' scan (noted ps w) m k j v (omega (arith, f.within, g.longer)) (subst (λ x. j < refs s x) (sym q) jl)
+      moving = moving_field s buf' scan (noted ps w) m k j v (omega (arith, f.within, g.longer)) (subst (λ x. j < refs s x) (sym q) jl)
           (f.at ∙ ap (λ z. span s z + 1 + j) (sym t))
           (subst (λ x. Renamed s (noted ps w) x v) (e ∙ ap (λ x. get_or s.words (x + j) 0) (sym q)) n);
       early = early_noted s roots ps w f.early (member_back roots (flat_map (pointers s) ps) w (member_joined (pointers s) ps k w f.within (j, omega (arith, length_pointers s p fit), here)));
@@ -171,13 +172,13 @@ fielding_more s roots from to starts free scan ps k j f jl from' to' starts' fre
     }
 
 -- an object's scan ends before the next header
-pub fielding_all : (s : Space) (roots from to : List ℕ) (starts : List Bool) (free scan : ℕ) (ps : List ℕ) (k j : ℕ) → Fielding s roots from to starts free scan ps k j → refs s (get_or ps k 0) ≤ j
-    → (scan' : ℕ) → scan' ≡ base s ps k + size s (get_or ps k 0) → Scanning s roots from to starts free scan' ps (k + 1)
-fielding_all s roots from to starts free scan ps k j f jl scan' e =
+pub fielding_all : (s : Space) (roots : List ℕ) (buf : Buffers) (scan : ℕ) (ps : List ℕ) (k j : ℕ) → Fielding s roots buf scan ps k j → refs s (get_or ps k 0) ≤ j
+    → (scan' : ℕ) → scan' ≡ base s ps k + size s (get_or ps k 0) → Scanning s roots buf scan' ps (k + 1)
+fielding_all s roots buf scan ps k j f jl scan' e =
     let p : ℕ = get_or ps k 0 in
-    let fit : p + refs s p ≤ length s.words = fields_fit s from to starts free scan ps f.moving k f.within in
+    let fit : p + refs s p ≤ length s.words = fields_fit s buf scan ps f.moving k f.within in
     record {
-      moving = moving_on s from to starts free scan ps f.moving scan' (omega (arith, f.at, f.some, e)) (omega (arith, base_ends s ps k f.within, f.moving.grown, e))
+      moving = moving_on s buf scan ps f.moving scan' (omega (arith, f.at, f.some, e)) (omega (arith, base_ends s ps k f.within, f.moving.grown, e))
           (λ n i nl il h.
           ⊎_elim
           (λ (q : n ≡ k). absurd (omega (arith, f.at, ap (λ x. base s ps x) q, ap (λ x. refs s (get_or ps x 0)) q)))
@@ -192,21 +193,21 @@ fielding_all s roots from to starts free scan ps k j f jl scan' e =
           f.whole
           ∙ ap firsts (ap (λ z. mentions s roots (take k ps) ++ z) (take_all j (pointers s p) (omega (arith, length_pointers s p fit)))
           ∙ append_assoc roots (flat_map (pointers s) (take k ps)) (pointers s p)
-          ∙ ap (λ z. roots ++ z) (ap (λ z. flat_map (pointers s) (take k ps) ++ z) (sym (append-nil (pointers s p))) ∙ sym (joined_append (pointers s) (take k ps) (p ∷ [])) ∙ ap (λ z. flat_map (pointers s) z) (sym (take_more ps k 0 f.within))));
+          ∙ ap (λ z. roots ++ z) (ap (λ z. flat_map (pointers s) (take k ps) ++ z) (sym (append-nil (pointers s p))) ∙ sym (flat_map-append (pointers s) (take k ps) (p ∷ [])) ∙ ap (λ z. flat_map (pointers s) z) (sym (take_more ps k 0 f.within))));
       within = omega (arith, f.within);
       at = e ∙ sym (base_more s ps k f.within);
     }
 
 -- what a scan reads and where
-module _ (s : Space) (roots from to : List ℕ) (starts : List Bool) (free scan : ℕ) (ps : List ℕ) (k : ℕ) (c : Scanning s roots from to starts free scan ps k) where
-  pub scan_head : k < length ps → get_or to scan 0 ≡ header s (get_or ps k 0)
-  scan_head l = ap (λ x. get_or to x 0) c.at ∙ c.moving.headed k l
+module _ (s : Space) (roots : List ℕ) (buf : Buffers) (scan : ℕ) (ps : List ℕ) (k : ℕ) (c : Scanning s roots buf scan ps k) where
+  pub scan_head : k < length ps → get_or buf.copy.words scan 0 ≡ header s (get_or ps k 0)
+  scan_head l = ap (λ x. get_or buf.copy.words x 0) c.at ∙ c.moving.headed k l
 
-  pub scan_inside : k < length ps → scan + size s (get_or ps k 0) ≤ length to
-  scan_inside l = omega (arith, base_ends s ps k l, c.moving.grown, c.at, c.moving.to_long, c.moving.room)
+  pub scan_inside : k < length ps → scan + size s (get_or ps k 0) ≤ length buf.copy.words
+  scan_inside l = omega (arith, base_ends s ps k l, c.moving.grown, c.at, c.moving.words_long, c.moving.room)
 
   -- before the end of the copy there is an object to scan
-  pub scan_next : scan < free → k < length ps
+  pub scan_next : scan < buf.copy.used → k < length ps
   scan_next h =
       ⊎_elim
       (λ (l : k < length ps). l)
@@ -215,24 +216,24 @@ module _ (s : Space) (roots from to : List ℕ) (starts : List Bool) (free scan 
       let z : ⊥ = omega (arith, e, c.moving.grown, c.at) in absurd z)
       (cases_lt k (length ps))
 
-module _ (s : Space) (roots from to : List ℕ) (starts : List Bool) (free scan : ℕ) (ps : List ℕ) (k j : ℕ) (f : Fielding s roots from to starts free scan ps k j) (l : j < refs s (get_or ps k 0)) where
-  pub field_inside : scan < length to
-  field_inside = omega (arith, base_ends s ps k f.within, f.moving.grown, f.at, f.moving.to_long, f.moving.room)
+module _ (s : Space) (roots : List ℕ) (buf : Buffers) (scan : ℕ) (ps : List ℕ) (k j : ℕ) (f : Fielding s roots buf scan ps k j) (l : j < refs s (get_or ps k 0)) where
+  pub field_inside : scan < length buf.copy.words
+  field_inside = omega (arith, base_ends s ps k f.within, f.moving.grown, f.at, f.moving.words_long, f.moving.room)
 
-  pub field_good : Pointer s (get_or to scan 0)
+  pub field_good : Pointer s (get_or buf.copy.words scan 0)
   field_good =
       let p : ℕ = get_or ps k 0 in
       let a : Place s p = f.moving.objects k f.within in
-      let e : get_or to scan 0 ≡ get_or s.words (p + j) 0 = ap (λ x. get_or to x 0) f.at ∙ f.moving.ahead k j f.within l (omega (arith, f.at)) in
+      let e : get_or buf.copy.words scan 0 ≡ get_or s.words (p + j) 0 = ap (λ x. get_or buf.copy.words x 0) f.at ∙ f.moving.ahead k j f.within l (omega (arith, f.at)) in
       let q : p - 1 + 1 + j ≡ p + j = omega (arith, a.0) in
       subst (λ x. Pointer s x) (ap (λ x. get_or s.words x 0) q ∙ sym e) (pointer_at s f.moving.sound (p - 1) j a.1 l)
 
 -- no root word is forwarded yet
-pub rooting_none : (s : Space) (to : List ℕ) (starts : List Bool) (roots : List ℕ) → Sound s → s.used ≤ 16384 → s.used ≤ length s.words → s.used ≤ length to → s.used ≤ length starts
-    → ((i : ℕ) → i < length roots → Pointer s (get_or roots i 0)) → Rooting s roots roots s.words to starts 0 [] 0
-rooting_none s to starts roots p short fl tl sl good =
+pub rooting_none : (s t : Space) (roots : List ℕ) → Sound s → s.used ≤ 16384 → s.used ≤ length s.words → length t.words ≡ length s.words → length t.starts ≡ length s.words → t.used ≡ 0
+    → ((i : ℕ) → i < length roots → Pointer s (get_or roots i 0)) → Rooting s roots roots (buffers s.words t) [] 0
+rooting_none s t roots p short fl tl sl z good =
     record {
-      moving = moving_none s to starts p short fl tl sl;
+      moving = moving_none s t p short fl tl sl z;
       early = λ k l. absurd (omega arith);
       whole = refl;
       long = refl;

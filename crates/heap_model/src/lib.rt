@@ -15,5 +15,5 @@ pub fn refs_of(header: u32) -> usize
 pub fn size_of(header: u32) -> usize
     ensures { result ≡ size_in header }
 {
-    1 + (header as usize / 65536 + header as usize % 65536)
+    1 + (refs_of(header) + header as usize % 65536)
 }

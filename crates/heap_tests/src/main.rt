@@ -38,10 +38,9 @@ fn step(rt: &HostRuntime, heap: &mut Heap, call: Call) -> io::Result<()> {
     match call {
         Call::Make(refs, plain) => tell(rt, call, heap.make(refs, plain)),
         Call::Load(place, field) => tell(rt, call, heap.load(place, field)),
-        Call::Store(place, field, word) => match heap.store(place, field, word) {
-            Ok(()) => tell(rt, call, Ok(word)),
-            Err(reason) => tell(rt, call, Err(reason)),
-        },
+        Call::Store(place, field, word) => {
+            tell(rt, call, heap.store(place, field, word).map(|()| word))
+        }
         Call::Collect(count, mut roots) => collect(rt, heap, &mut roots[0..count.min(4)]),
     }
 }
@@ -69,42 +68,33 @@ fn play(rt: &HostRuntime, first: usize, second: usize, calls: &[Call]) -> io::Re
 }
 
 // A chain of 8,000 objects, each naming the one before it; then an object of 383 words whose 255 pointer fields name the chain's first, and one of 1 word.
-fn chain(heap: &mut Heap) -> u32 {
+fn chain(heap: &mut Heap) -> Result<u32, Refusal> {
     let mut last = 0;
     for _ in 0..8_000 {
-        if let Ok(place) = heap.make(1, 0) {
-            let _ = heap.store(place, 0, last);
-            last = place;
-        }
+        let place = heap.make(1, 0)?;
+        heap.store(place, 0, last)?;
+        last = place;
     }
-    if let Ok(place) = heap.make(255, 127) {
-        for field in 0..255 {
-            let _ = heap.store(place, field, 1);
-        }
+    let place = heap.make(255, 127)?;
+    for field in 0..255 {
+        heap.store(place, field, 1)?;
     }
-    let _ = heap.make(0, 0);
-    last
+    heap.make(0, 0)?;
+    Ok(last)
 }
 
 // Collects the full heap of the chain from its far end, and then without the chain.
 // Answers the root words after the first collection, the used words and the first object's field; then the used words and a field after the second.
-fn full(heap: &mut Heap) -> [u32; 7] {
-    let mut roots = [chain(heap), 16_384, 16_001];
-    let _ = heap.collect(&mut roots);
+fn full(mut heap: Heap) -> Result<[u32; 7], Refusal> {
+    let mut roots = [chain(&mut heap)?, 16_384, 16_001];
+    heap.collect(&mut roots)?;
     let used = heap.used() as u32;
-    let named = heap.load(1, 0).unwrap_or(0);
+    let named = heap.load(1, 0)?;
     let mut big = [roots[2]];
-    let _ = heap.collect(&mut big);
+    heap.collect(&mut big)?;
     let left = heap.used() as u32;
-    [
-        roots[0],
-        roots[1],
-        roots[2],
-        used,
-        named,
-        left,
-        heap.load(big[0], 254).unwrap_or(0),
-    ]
+    let last = heap.load(big[0], 254)?;
+    Ok([roots[0], roots[1], roots[2], used, named, left, last])
 }
 
 // Objects (1, 1), (0, 2) and (0, 0), the first naming the second, collected from the first and from both the other way round.
@@ -186,8 +176,8 @@ fn main(rt: HostRuntime) -> io::Result<()> {
     play(&rt, 15, 16, &[])?;
     play(&rt, 16_385, 1, &[])?;
     play(&rt, 16, 17, &[])?;
-    match fresh(&rt, 16_384, 16_384)? {
-        Ok(mut heap) => println!(rt; "full heap: {:?}", full(&mut heap)),
-        Err(_) => Ok(()),
+    match fresh(&rt, 16_384, 16_384)?.and_then(full) {
+        Ok(words) => println!(rt; "full heap: {words:?}"),
+        Err(reason) => println!(rt; "full heap: refused {}", reason.number()),
     }
 }

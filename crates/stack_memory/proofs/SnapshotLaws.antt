@@ -1,8 +1,8 @@
 -- Laws of the words of a snapshot: which, after a write, and when no word was written yet.
-use Rattle.std.specs.Prelude.{◌≡◌, ℕ, ◌+◌, ◌/◌, ◌%◌, ◌^◌, ◌<◌, ◌≤◌, true, cond, ◌≢◌, List, [], ◌∷◌, ◌++◌, length, drop, set, replicate, bit_or, nat_eq, slice_index, slice_index_or, slice_set}
+use Rattle.std.specs.Prelude.{◌≡◌, ℕ, ◌/◌, ◌%◌, ◌^◌, ◌<◌, ◌≤◌, true, cond, ◌≢◌, List, ◌++◌, length, replicate, bit_or, nat_eq, slice_index, slice_index_or, slice_set}
 use Rattle.std.proofs.Common.{sym, ap, subst, ◌∙◌, ⊎_elim, arith}
 use Rattle.std.proofs.lemmas.List.FromFn.{get_or-map-range_with_len}
-use Rattle.std.proofs.lemmas.List.{ext_get_or, length-set, get_or-set_same, get_or-set_other, get_or-replicate, get_or_append_left, length-replicate, drop_more, set_at, append_assoc, replicate_more}
+use Rattle.std.proofs.lemmas.List.{ext_get_or, length-set, get_or-set_same, get_or-set_other, get_or-replicate, get_or_append_left, length-replicate}
 use Rattle.std.proofs.lemmas.Bool.{cases_eq, eq-eqb, ne_eqb, cond-true, cond-false}
 use Rattle.words.specs.Bits.{Bit}
 use Rattle.words.specs.Bytes.{word_in, words_of}
@@ -77,14 +77,6 @@ words_now_put image buffer bits i w h roomy mapped =
     ∙ sym (slice_index-words_now image buffer bits k below)
     ∙ sym (get_or-set_other (words_now image buffer bits) i k w 0 e))
     (cases_eq k i))
-
--- one more word of a bit map cleared
-pub cleared_more : (bits : List ℕ) (i : ℕ) → i < length bits → slice_set (replicate i 0 ++ drop i bits) i 0 ≡ replicate (i + 1) 0 ++ drop (i + 1) bits
-cleared_more bits i h =
-    ap (λ xs. set (replicate i 0 ++ xs) i 0) (drop_more bits i 0 h)
-    ∙ set_at (replicate i 0) (slice_index bits i) (drop (i + 1) bits) 0 i (length-replicate i 0)
-    ∙ sym (append_assoc (replicate i 0) (0 ∷ []) (drop (i + 1) bits))
-    ∙ ap (λ xs. xs ++ drop (i + 1) bits) (replicate_more i 0)
 
 -- while no bit stands, the words are the image's
 pub words_now_fresh : (image buffer rest : List ℕ) → words_now image buffer (replicate (map_length (length image / 4)) 0 ++ rest) ≡ words_of image

@@ -8,7 +8,6 @@ use refusal::Refusal;
 
 mod live;
 mod snapshot;
-mod widths;
 
 pub use live::LiveMemory;
 pub use snapshot::SnapshotMemory;
@@ -74,10 +73,9 @@ mod tests {
 
     // The number of the reason for which these words are no live memory, or 0.
     fn refused(words: Vec<u32>) -> u8 {
-        match LiveMemory::new(words) {
-            Ok(_) => 0,
-            Err(reason) => reason.number(),
-        }
+        LiveMemory::new(words)
+            .err()
+            .map_or(0, |reason| reason.number())
     }
 
     #[test]
@@ -91,10 +89,8 @@ mod tests {
     // The number of the reason for which an image of so many bytes, with buffers of so many words, is no snapshot, or 0.
     fn barred(heap: Global, bytes: usize, count: usize, bits: usize) -> Result<u8, AllocError> {
         let image = vec![in heap; 0; bytes]?;
-        match SnapshotMemory::new(image, vec![in heap; 0; count]?, vec![in heap; 0; bits]?) {
-            Ok(_) => Ok(0),
-            Err(reason) => Ok(reason.number()),
-        }
+        let made = SnapshotMemory::new(image, vec![in heap; 0; count]?, vec![in heap; 0; bits]?);
+        Ok(made.err().map_or(0, |reason| reason.number()))
     }
 
     #[test]

@@ -1,12 +1,12 @@
 // A memory whose words are the caller's, with whatever they held.
-ghost use Rattle.std.specs.Prelude.{ℕ, ◌^◌, ◌<◌, ◌≤◌, vec_len, slice_index};
+ghost use Rattle.std.specs.Prelude.{ℕ, ◌^◌, ◌<◌, length, slice_index};
+ghost use Rattle.stack_memory.specs.Limits.{CountFits};
 
 mod calls;
 
 #[derive(Drop)]
 pub struct LiveMemory {
     cells: Vec<u32>,
-    ghost some: { 1 ≤ vec_len cells },
-    ghost few: { vec_len cells ≤ 8192 },
+    ghost fitting: { CountFits (length cells.items) },
     ghost small: { (i : ℕ) → slice_index cells.items i < 2 ^ 32 },
 }

@@ -1,6 +1,8 @@
 // A memory that begins as an image and keeps the image as it is: what is written goes into a buffer of words,
 // and a bit map tells which words were written.
-ghost use Rattle.std.specs.Prelude.{◌≡◌, ℕ, ◌+◌, ◌/◌, ◌%◌, ◌^◌, ◌<◌, ◌≤◌, vec_len, slice_index};
+// Image, buffer and bit map are three buffers, and no list of cells: each is the caller's, the image stays as it was given, and nothing is allocated.
+ghost use Rattle.std.specs.Prelude.{ℕ, ◌^◌, ◌<◌, slice_index};
+ghost use Rattle.stack_memory.specs.Limits.{ImageFits, BuffersFit};
 
 mod calls;
 
@@ -12,11 +14,8 @@ pub struct SnapshotMemory {
     buffer: Vec<u32>,
     // Bit i % 32 of word i / 32 stands if word i was written.
     written: Vec<u32>,
-    ghost whole: { vec_len image % 4 ≡ 0 },
-    ghost some: { 1 ≤ vec_len image / 4 },
-    ghost few: { vec_len image / 4 ≤ 8192 },
-    ghost roomy: { vec_len image / 4 ≤ vec_len buffer },
-    ghost mapped: { (vec_len image / 4 + 31) / 32 ≤ vec_len written },
+    ghost imaging: { ImageFits image.items },
+    ghost serving: { BuffersFit image.items buffer.items written.items },
     ghost image_small: { (i : ℕ) → slice_index image.items i < 2 ^ 8 },
     ghost buffer_small: { (i : ℕ) → slice_index buffer.items i < 2 ^ 32 },
 }

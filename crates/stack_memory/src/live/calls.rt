@@ -2,10 +2,8 @@
 ghost use Rattle.std.specs.Prelude.{MatchResult};
 ghost use Rattle.stack_memory.specs.Making.{MadeLive, NoLive};
 ghost use Rattle.stack_memory.specs.Meaning.{live_words};
-ghost use Rattle.std.proofs.Common.{arith};
 
 use super::LiveMemory;
-use crate::widths::note_words;
 use crate::{MOST_WORDS, StackMemory};
 use refusal::Refusal;
 
@@ -14,13 +12,9 @@ impl LiveMemory {
     pub fn new(words: Vec<u32>) -> Result<LiveMemory, Refusal>
         ensures { MatchResult result (MadeLive words.items) (NoLive words.items) }
     {
-        if words.is_empty() {
+        if !(1..=MOST_WORDS).contains(&words.len()) {
             return Err(Refusal::OutsideLimits);
         }
-        if words.len() > MOST_WORDS {
-            return Err(Refusal::OutsideLimits);
-        }
-        note_words(words.as_slice());
         Ok(LiveMemory { cells: words })
     }
 }
@@ -28,9 +22,9 @@ impl LiveMemory {
 impl StackMemory for LiveMemory {
     ghost words = { live_words };
 
-    ghost some = { λ m. omega (arith, m.some, m.cells.ok.0) };
+    ghost some = { λ m. m.fitting.some };
 
-    ghost few = { λ m. omega (arith, m.few, m.cells.ok.0) };
+    ghost few = { λ m. m.fitting.few };
 
     ghost small = { λ m. m.small };
 
@@ -39,17 +33,14 @@ impl StackMemory for LiveMemory {
     }
 
     fn read(&self, index: usize) -> Result<u32, Refusal> {
-        if index >= self.cells.len() {
-            return Err(Refusal::OutOfRange);
-        }
-        Ok(self.cells[index])
+        self.cells.get(index).copied().ok_or(Refusal::OutOfRange)
     }
 
     fn write(&mut self, index: usize, word: u32) -> Result<(), Refusal> {
-        if index >= self.cells.len() {
+        let Some(cell) = self.cells.get_mut(index) else {
             return Err(Refusal::OutOfRange);
-        }
-        self.cells[index] = word;
+        };
+        *cell = word;
         Ok(())
     }
 }

@@ -8,7 +8,6 @@ ghost use Rattle.std.proofs.Common.{arith};
 ghost use Rattle.stack_memory.specs.SnapshotSizes.{length_snapshot, words_now_small};
 
 use super::SnapshotMemory;
-use crate::widths::{note_bytes, note_words};
 use crate::{MOST_WORDS, StackMemory};
 use refusal::Refusal;
 use words::{has_bit, word_at};
@@ -24,27 +23,14 @@ impl SnapshotMemory {
         ensures { MatchResult result (MadeSnapshot image.items buffer.items written.items) (NoSnapshot image.items buffer.items written.items) }
     {
         let length = image.len() / 4;
-        if image.len() % 4 != 0 {
+        if image.len() % 4 != 0 || !(1..=MOST_WORDS).contains(&length) {
             return Err(Refusal::OutsideLimits);
         }
-        if length == 0 {
-            return Err(Refusal::OutsideLimits);
-        }
-        if length > MOST_WORDS {
-            return Err(Refusal::OutsideLimits);
-        }
-        let map_length = (length + 31) / 32;
-        if buffer.len() < length {
+        let map_length = length.div_ceil(32);
+        if buffer.len() < length || written.len() < map_length {
             return Err(Refusal::BadBuffer);
         }
-        if written.len() < map_length {
-            return Err(Refusal::BadBuffer);
-        }
-        for i in 0..map_length {
-            written[i] = 0;
-        }
-        note_bytes(image.as_slice());
-        note_words(buffer.as_slice());
+        written[0..map_length].fill(0);
         Ok(SnapshotMemory {
             image,
             buffer,
@@ -74,13 +60,14 @@ impl SnapshotMemory {
     }
 }
 
+#[tactic(auto, using(crate::specs::SnapshotSizes::length_snapshot))]
 impl StackMemory for SnapshotMemory {
     ghost words = { snapshot_words };
 
     // The sizes that the parts keep bound the words.
-    ghost some = { λ m. omega (arith, length_snapshot m, m.some) };
+    ghost some = { λ m. omega (arith, length_snapshot m, m.imaging.fitting.some, m.image.ok.0) };
 
-    ghost few = { λ m. omega (arith, length_snapshot m, m.few) };
+    ghost few = { λ m. omega (arith, length_snapshot m, m.imaging.fitting.few, m.image.ok.0) };
 
     ghost small = { λ m. words_now_small m.image.items m.buffer.items m.written.items m.image_small m.buffer_small };
 
@@ -89,9 +76,7 @@ impl StackMemory for SnapshotMemory {
     }
 
     fn read(&self, index: usize) -> Result<u32, Refusal> {
-        let Some(original) = word_at(self.image.as_slice(), index) else {
-            return Err(Refusal::OutOfRange);
-        };
+        let original = word_at(self.image.as_slice(), index).ok_or(Refusal::OutOfRange)?;
         if has_bit(self.written[index / 32], (index % 32) as u32) {
             return Ok(self.buffer[index]);
         }
@@ -102,9 +87,10 @@ impl StackMemory for SnapshotMemory {
         ensures words { MatchResult result (λ _. Changed (snapshot_words self.old) index word (snapshot_words self.new)) (λ e. Unchanged (snapshot_words self.old) index e (snapshot_words self.new)) }
         ensures parts { MatchResult result (λ _. Stored self.old index word self.new) (λ _. Kept self.old self.new) }
     {
-        if index >= self.image.len() / 4 {
+        if index >= self.len() {
             return Err(Refusal::OutOfRange);
         }
+        // By index and not by `get_mut`: the range is the image's, and the buffer may be longer.
         self.buffer[index] = word;
         self.written[index / 32] |= 1 << (index % 32);
         Ok(())
