@@ -103,7 +103,7 @@ bit_told false m n i e h = sym (ne_eqb (m / 2 ^ i % 2) 1 (λ z. h (ap (λ x. x /
 pub no_row : (b : Entry) (s t u : Reader) (f : ReaderFault) → Took (entry_in b) None s t → f.byte ≡ s.at → u.at ≡ s.at → u.image.now ≡ t.image.now → NoRow b s u f
 no_row b s t u f h e place image = record {
   byte = e;
-  none = λ lb x q n k. let a = sym h.ran ∙ ap (λ l. entry_in b l) k ∙ entry_whole b x q lb n in let z : ◌≡◌ {A = ℕ} 0 1 = cc in omega arith;
+  none = λ lb x q n k. let a = sym h.ran ∙ ap (λ l. entry_in b l) k ∙ entry_whole b x q lb n in cc;
   image = image ∙ h.same;
   place = place;
 }
