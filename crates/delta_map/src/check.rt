@@ -38,6 +38,7 @@ pub fn check_delta(image: &[u8]) -> Result<usize, Refusal>
 {
     check_starts(image)?;
     let mut rows = 0;
+    // By number, since a row must have a point of its bucket.
     for place in 0..BUCKETS {
         rows = check_bucket(image, place, rows)?;
     }

@@ -121,11 +121,8 @@ impl RowCode {
         requires { length (made self.old) + 2 ≤ 20 }
         ensures { Added (step_code step) self.old self.new }
     {
-        if u32::from(step) <= NARROW_END {
-            self.number(1, u32::from(step));
-            return;
-        }
-        self.number(2, u32::from(step));
+        let count = if u32::from(step) <= NARROW_END { 1 } else { 2 };
+        self.number(count, u32::from(step));
     }
 
     // The saved slots that differ: a bit for each, then the slots.
@@ -162,6 +159,7 @@ pub fn write_row(out: &mut [u8], at: usize, before: &Entry, entry: &Entry) -> Op
     if end > out.len() {
         return None;
     }
+    // By a range: of what is written through `get_mut`, a proof knows only the length.
     out[at..end].copy_from_slice(row.as_slice());
     Some(end)
 }

@@ -1,11 +1,8 @@
 use Rattle.std.proofs.Common.{◌≡◌, ◌*◌, sym, refl, ap, ◌∙◌, subst, add-one, arith}
 use Rattle.std.proofs.lemmas.Result.{err_from_is_err_and}
 use Rattle.delta_image.specs.Images.{start_in, GoodStarts}
-use Rattle.delta_map.proofs.StartLaws.{starts_none, starts_more, starts_next}
+use Rattle.delta_map.proofs.StartLaws.{starts_more, starts_next}
 use Rattle.delta_map.proofs.starts.check_starts.Goals as goal
-
-pub loop-k-init : goal.loop-k-init
-loop-k-init c = (starts_none c.args.image.now, λ j e. absurd (omega arith))
 
 pub loop-k-preserved : goal.loop-k-preserved
 loop-k-preserved c =
@@ -31,8 +28,3 @@ returns-in_err-last c =
       row_none = refl;
       byte_is = refl;
     })
-
-pub returns : goal.returns
-returns c =
-    let e : c.loop-k.k ≡ 65 = omega arith in
-    subst (λ n. GoodStarts c.args.image.now n) e c.loop-k.invariant.0

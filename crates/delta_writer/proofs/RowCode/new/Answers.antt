@@ -29,9 +29,18 @@ pub resaved-requires : goal.resaved-requires
 resaved-requires c =
     let row = c.args.entry.now.row in
     let was = c.args.before.now.row in
-    omega (arith, ap length c.new.ensures, simp length-append at (ap length c.push.ensures),
-    simp length-append at (ap length c.stepped.ensures), step-length c.saturating_sub.result,
-    simp length-append at (ap length c.resized.ensures), resized-length was.size row.size,
-    simp length-append at (ap length c.changed.ensures), changed-length 4 was.slots row.slots,
-    simp length-append at (ap length c.changed-2.ensures), changed-length 2 c.from.result c.from-2.result,
-    simp length-append at (ap length c.changed-3.ensures), changed-length 1 c.from-3.result c.from-4.result)
+    omega (
+      arith,
+      ap length c.new.ensures,
+      simp length-append at (ap length c.push.ensures),
+      simp length-append at (ap length c.stepped.ensures),
+      step-length c.saturating_sub.result,
+      simp length-append at (ap length c.resized.ensures),
+      resized-length was.size row.size,
+      simp length-append at (ap length c.changed.ensures),
+      changed-length 4 was.slots row.slots,
+      simp length-append at (ap length c.changed-2.ensures),
+      changed-length 2 c.from.result c.from-2.result,
+      simp length-append at (ap length c.changed-3.ensures),
+      changed-length 1 c.from-3.result c.from-4.result,
+    )
