@@ -1,9 +1,9 @@
 -- What the writer's steps add.
-use Rattle.std.proofs.Common.{◌≡◌, ℕ, zero, suc, w32, ◌+◌, ◌-◌, ◌%◌, ◌^◌, ◌<◌, ◌≤◌, Bool, List, length, take, refl, ap, ◌∙◌, arith, pow-suc, pow_mono}
+use Rattle.std.proofs.Common.{◌≡◌, ℕ, zero, suc, w32, ◌+◌, ◌-◌, ◌%◌, ◌^◌, ◌<◌, ◌≤◌, Bool, List, length, take, refl, ap, ◌∙◌, arith, add-one, pow-suc, pow_mono}
 use Rattle.std.specs.Int.{to_le_bytes}
 use Rattle.std.proofs.lemmas.List.{length-append}
 use Rattle.delta_layout.specs.Bytes.{bytes}
-use Rattle.delta_layout.specs.Codes.{mask_of}
+use Rattle.delta_layout.specs.Codes.{flag, mask_of}
 use Rattle.delta_layout.proofs.CodeLaws.{step-length, resized-length, changed-length, resaved-length}
 use Rattle.delta_layout.proofs.MaskLaws.{mask_low}
 use Rattle.delta_writer.specs.Writing.{made, Added}
@@ -32,3 +32,12 @@ mask_fits p k l =
     let most : suc k ≤ 8 = l in
     let all : 2 ^ suc k ≤ 2 ^ 8 = pow_mono most in
     omega (arith, mask_low p k, pow-suc 2 k)
+
+-- a mask of no fact, and of one fact more
+pub mask_begin : (p : ℕ → Bool) → 0 ≡ mask_of p 0
+unfolding mask_of
+mask_begin p = refl
+
+pub mask_more : (p : ℕ → Bool) (n : ℕ) → mask_of p (n + 1) ≡ mask_of p n + flag n (p n)
+unfolding mask_of
+mask_more p n = ap (λ m. mask_of p m) (add-one n)

@@ -25,13 +25,13 @@ fn flag_bit(field: Field, present: bool) -> u8
 }
 
 // The callee-save registers whose saved slots differ.
-#[tactic(auto, using(crate::proofs::WriterLaws::mask_fits), unfolding(delta_layout::specs::Codes::mask_of))]
+#[tactic(auto, using(crate::proofs::WriterLaws::mask_fits, crate::proofs::WriterLaws::mask_begin, crate::proofs::WriterLaws::mask_more))]
 fn moved_registers(was: &[u8; 8], saved: &[u8; 8]) -> u8
     ensures { result ≡ moved_mask was.now saved.now }
 {
     let mut mask = 0;
-    for (k, slot) in saved.iter().enumerate() {
-        if was[k] != *slot {
+    for (k, (old, new)) in was.iter().zip(saved).enumerate() {
+        if old != new {
             mask += 1 << k;
         }
     }
@@ -126,7 +126,7 @@ impl RowCode {
     }
 
     // The saved slots that differ: a bit for each, then the slots.
-    #[tactic(auto, using(delta_layout::proofs::CodeLaws::slots_length), unfolding(delta_layout::specs::Codes::moved_slots, delta_layout::specs::Bytes::bytes))]
+    #[tactic(auto, using(crate::proofs::WriterLaws::part_lengths, delta_layout::proofs::CodeLaws::slots_length), unfolding(delta_layout::specs::Codes::moved_slots, delta_layout::specs::Bytes::bytes))]
     fn resaved(&mut self, was: &[u8; 8], saved: &[u8; 8])
         requires { length (made self.old) + 9 ≤ 20 }
         ensures { Added (resaved was.now saved.now) self.old self.new }
