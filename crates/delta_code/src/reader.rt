@@ -4,7 +4,7 @@ ghost use Rattle.delta_code.specs.Reading.{rest};
 
 mod rows;
 
-// The bytes of an image up to where the rows end, and the place of the next byte.
+// The bytes of an image up to where the rows end, and the place of the next byte: it stands beside them, since a fault tells it.
 #[derive(Drop)]
 pub struct Reader<'a> {
     image: &'a [u8],
@@ -25,7 +25,7 @@ impl<'a> Reader<'a> {
     {
         let end = end.min(image.len());
         Reader {
-            image: &image[0..end],
+            image: &image[..end],
             at,
         }
     }

@@ -1,38 +1,27 @@
 -- Which images are those of tables.
-use Rattle.std.proofs.Common.{◌≡◌, ℕ, zero, suc, ◌+◌, ◌-◌, ◌*◌, ◌<◌, ◌≤◌, List, [], ◌∷◌, ◌++◌, length, get_or, replicate, sym, refl, ap, ◌∙◌, subst, ⊎_elim, append_assoc, append-nil, arith}
-use Rattle.std.proofs.lemmas.List.{length-append, get_or_append_left, get_or-replicate, get_or_past}
-use Rattle.std.proofs.lemmas.Bool.{cases_lt}
-use Rattle.words.proofs.BitLaws.{bit_of_zero}
+use Rattle.std.proofs.Common.{◌≡◌, ℕ, zero, suc, ◌+◌, ◌-◌, ◌*◌, ◌<◌, ◌≤◌, List, [], ◌∷◌, ◌++◌, length, get_or, sym, refl, ap, ◌∙◌, subst, append_assoc, append-nil, arith}
+use Rattle.std.proofs.lemmas.List.{length-append, get_or_append_left}
 use Rattle.frame_map.specs.Maps.{Point}
-use Rattle.frame_map.specs.Rows.{Lawful, saved_slot}
+use Rattle.frame_map.specs.Rows.{Lawful}
 use Rattle.frame_map.specs.Tables.{Table, blank, entry_at, row_for}
 use Rattle.frame_map.specs.declared.row.Entry.{Entry}
 use Rattle.frame_map.proofs.Listing.{table_rising}
 use Rattle.frame_map.proofs.TableLaws.{row_for_some}
-use Rattle.delta_layout.specs.Codes.{origin, code, codes}
+use Rattle.delta_layout.specs.Codes.{origin, codes, last_of}
+use Rattle.delta_layout.proofs.CodeLaws.{origin_lawful, codes_none, codes-append, codes-length, no_codes}
 use Rattle.delta_image.specs.Buckets.{bucket_of, in_bucket, body, start, delta_bytes, DeltaMeans}
 use Rattle.delta_image.specs.Images.{start_in, stretch, GoodStarts, Bucket, rows_in, BadRow, BadStart}
-use Rattle.delta_image.proofs.Chains.{last_of, Coding, front, codes_short, bucket_chain, bucket_rising, bucket_belong, table_bucket}
+use Rattle.delta_image.proofs.Chains.{front, bucket_chain, bucket_rising, bucket_belong, table_bucket}
 use Rattle.delta_image.proofs.Layouts.{body_more, laid_starts, laid_bucket, laid_whole, starts_inside}
 use Rattle.delta_image.proofs.Merging.{merged, merged_rises, merged_rows, merged_bucket, row_in_bucket, total, total_same, total_all, bucket_small}
 use Rattle.frame_map.proofs.Rising.{rises_lower, rises_pairs, rises_high, rises_at, determined}
 use Rattle.delta_image.proofs.Stretches.{stretch-length, stretch_join}
 
-no_slot : (k : ℕ) → saved_slot origin.row k ≡ 0
-no_slot k = ⊎_elim (λ (l : k < 8). get_or-replicate 8 k 0 0 l) (λ (l : 8 ≤ k). get_or_past (replicate 8 0) k 0 l) (cases_lt k 8)
-
-pub origin_lawful : Lawful origin.row
-origin_lawful = record {
-  sized = record { some = omega arith; most = omega arith };
-  slotted = λ i b. absurd (bit_of_zero i b);
-  saves = record {
-    eight = refl;
-    inside = λ k p. absurd (omega (arith, no_slot k));
-    apart = λ j k h p e. omega (arith, no_slot k);
-    plain = λ k p b. omega (arith, no_slot k);
-  };
-  masked = record { sixteen = omega arith; eight = omega arith; disjoint = λ k p q. bit_of_zero k q };
-}
+-- how many rows the first n buckets have
+rows_total : (bs : ℕ → List Entry) (n : ℕ) → rows_in bs n ≡ total (λ k. length (bs k)) n
+unfolding total rows_in
+rows_total bs zero = refl
+rows_total bs (suc n) = ap (λ x. x + length (bs n)) (rows_total bs n)
 
 -- good buckets, laid out between good starts, are the image of one table
 module _ (w : List ℕ) (byte : (i : ℕ) → get_or w i 0 < 256) (good : GoodStarts w 65) (bs : ℕ → List Entry)
@@ -52,16 +41,11 @@ module _ (w : List ℕ) (byte : (i : ℕ) → get_or w i 0 < 256) (good : GoodSt
       let same : entry_at (bs (bucket_of e.point)) f.0 ≡ e = λ t. record { point = f.2 t; row = f.3 t } in
       subst P same (h (bucket_of e.point) (bucket_small e.point) f.0 f.1)
 
-  rows_total : (n : ℕ) → total (λ k. length (bs k)) n ≡ rows_in bs n
-  unfolding total rows_in
-  rows_total zero = refl
-  rows_total (suc n) = ap (λ x. x + length (bs n)) (rows_total n)
-
   pub merged_length : length (merged bs 65536) ≡ rows_in bs 64
   merged_length =
       let a = total_all (merged bs 65536) in
       let b = total_same (λ k. length (in_bucket k (merged bs 65536))) (λ k. length (bs k)) 64 (λ k l. ap length (same_bucket k l)) in
-      let c = rows_total 64 in
+      let c = rows_total bs 64 in
       omega arith
 
   merged_few : length (merged bs 65536) ≤ 1024
@@ -79,14 +63,14 @@ module _ (w : List ℕ) (byte : (i : ℕ) → get_or w i 0 < 256) (good : GoodSt
   }
 
 -- an image of a table has good starts and, between them, the rows of the table's buckets
-module _ (known : Coding) (es : List Entry) (t : Table es) where
+module _ (es : List Entry) (t : Table es) where
   body_short : (n : ℕ) → length (body es n) ≤ 20 * total (λ b. length (in_bucket b es)) n
   unfolding body total
   body_short zero = omega arith
   body_short (suc n) =
       let a = body_short n in
       let b = body_more es n in
-      let c = codes_short known origin (in_bucket n es) origin_lawful (bucket_chain n (in_bucket n es) (table_bucket es t n)) in
+      let c = codes-length origin (in_bucket n es) in
       omega arith
 
   pub image_fits : start es 64 < 65536
@@ -107,22 +91,8 @@ fewer_starts w m n l g = record {
   last = λ p. g.last (omega arith);
 }
 
-pub bad_start_means : (known : Coding) (w : List ℕ) (k : ℕ) → BadStart w k → (es : List Entry) → DeltaMeans w es → ⊥
-bad_start_means known w k b es m = b.bad (fewer_starts w (suc k) 65 b.inside (table_starts known es m.table w m.laid))
-
--- codes of lists that are put together
-pub codes-append : (b : Entry) (xs ys : List Entry) → codes b (xs ++ ys) ≡ codes b xs ++ codes (last_of b xs) ys
-unfolding codes
-codes-append b [] ys = refl
-codes-append b (x ∷ xs) ys = ap (λ l. code b x ++ l) (codes-append x xs ys) ∙ sym (append_assoc (code b x) (codes x xs) (codes (last_of x xs) ys))
-
-codes_none : (b : Entry) → codes b [] ≡ []
-unfolding codes
-codes_none b = refl
-
-codes-cons : (b e : Entry) (es : List Entry) → codes b (e ∷ es) ≡ code b e ++ codes e es
-unfolding codes
-codes-cons b e es = refl
+pub bad_start_means : (w : List ℕ) (k : ℕ) → BadStart w k → (es : List Entry) → DeltaMeans w es → ⊥
+bad_start_means w k b es m = b.bad (fewer_starts w (suc k) 65 b.inside (table_starts es m.table w m.laid))
 
 bucket_front : (b : ℕ) (xs ys : List Entry) → Bucket b (xs ++ ys) → Bucket b xs
 bucket_front b xs ys k =
@@ -135,97 +105,83 @@ bucket_front b xs ys k =
       belongs = λ i l. subst (λ e. bucket_of e.point ≡ b) (at i l) (k.belongs i (omega arith));
     }
 
-module _ (known : Coding) where
-  no_codes : (b : Entry) (zs : List Entry) → codes b zs ≡ [] → zs ≡ []
-  no_codes b [] h = refl
-  no_codes b (z ∷ zs) h =
-      let a = ap length (sym (codes-cons b z zs) ∙ h) in
-      let c = length-append (code b z) (codes z zs) in
-      let s = known.some b z in
-      absurd (omega arith)
+-- buckets are told by their codes
+pub bucket_same : (b : ℕ) (xs ys : List Entry) → Bucket b xs → Bucket b ys → codes origin xs ≡ codes origin ys → xs ≡ ys
+bucket_same b xs ys kx ky h =
+    let f = front origin xs ys [] origin_lawful (bucket_chain b xs kx) (bucket_chain b ys ky) (append-nil (codes origin xs) ∙ h) in
+    let z = no_codes (last_of origin xs) f.0 (sym f.2) in
+    sym (f.1 ∙ ap (λ l. xs ++ l) z ∙ append-nil xs)
 
-  -- buckets are told by their codes
-  pub bucket_same : (b : ℕ) (xs ys : List Entry) → Bucket b xs → Bucket b ys → codes origin xs ≡ codes origin ys → xs ≡ ys
-  bucket_same b xs ys kx ky h =
-      let f = front known origin xs ys [] origin_lawful (bucket_chain b xs kx) (bucket_chain b ys ky) (append-nil (codes origin xs) ∙ h) in
-      let z = no_codes (last_of origin xs) f.0 (sym f.2) in
-      sym (f.1 ∙ ap (λ l. xs ++ l) z ∙ append-nil xs)
+-- an image is that of one table alone
+pub table_unique : (w : List ℕ) (es es' : List Entry) → DeltaMeans w es → DeltaMeans w es' → es ≡ es'
+table_unique w es es' m m' =
+    determined 1 65536 1 65536 es es' (table_rising es m.table) (table_rising es' m'.table)
+    (λ p.
+    let k : ℕ = bucket_of p in
+    let same : in_bucket k es ≡ in_bucket k es' =
+    bucket_same k (in_bucket k es) (in_bucket k es') (table_bucket es m.table k) (table_bucket es' m'.table k)
+    (table_laid es m.table w m.laid k (bucket_small p) ∙ sym (table_laid es' m'.table w m'.laid k (bucket_small p))) in
+    sym (row_in_bucket p es) ∙ ap (λ l. row_for p l) same ∙ row_in_bucket p es')
 
-  -- an image is that of one table alone
-  pub table_unique : (w : List ℕ) (es es' : List Entry) → DeltaMeans w es → DeltaMeans w es' → es ≡ es'
-  table_unique w es es' m m' =
-      determined 1 65536 1 65536 es es' (table_rising es m.table) (table_rising es' m'.table)
-      (λ p.
-      let k : ℕ = bucket_of p in
-      let same : in_bucket k es ≡ in_bucket k es' =
-      bucket_same k (in_bucket k es) (in_bucket k es') (table_bucket es m.table k) (table_bucket es' m'.table k)
-      (table_laid known es m.table w m.laid k (bucket_small p) ∙ sym (table_laid known es' m'.table w m'.laid k (bucket_small p))) in
-      sym (row_in_bucket p es) ∙ ap (λ l. row_for p l) same ∙ row_in_bucket p es')
+-- the first rows of a bucket, where more bytes follow, are followed by one more row
+goes_on : (b : ℕ) (xs ys : List Entry) (r : List ℕ) → Bucket b xs → Bucket b ys → codes origin xs ++ r ≡ codes origin ys → 0 < length r →
+    (e : Entry) × (zs : List Entry) × (ys ≡ (xs ++ e ∷ []) ++ zs)
+goes_on b xs ys r kx ky h l =
+    let f = front origin xs ys r origin_lawful (bucket_chain b xs kx) (bucket_chain b ys ky) h in
+    split f.0 f.1 f.2
+  where
+    split : (zs : List Entry) → ys ≡ xs ++ zs → r ≡ codes (last_of origin xs) zs → (e : Entry) × (zs : List Entry) × (ys ≡ (xs ++ e ∷ []) ++ zs)
+    split [] p q = let a = ap length (q ∙ codes_none (last_of origin xs)) in absurd (omega arith)
+    split (z ∷ zs) p q = (z, zs, p ∙ sym (append_assoc xs (z ∷ []) zs))
 
-  -- the first rows of a bucket, where more bytes follow, are followed by one more row
-  goes_on : (b : ℕ) (xs ys : List Entry) (r : List ℕ) → Bucket b xs → Bucket b ys → codes origin xs ++ r ≡ codes origin ys → 0 < length r →
-      (e : Entry) × (zs : List Entry) × (ys ≡ (xs ++ e ∷ []) ++ zs)
-  goes_on b xs ys r kx ky h l =
-      let f = front known origin xs ys r origin_lawful (bucket_chain b xs kx) (bucket_chain b ys ky) h in
-      split f.0 f.1 f.2
-    where
-      split : (zs : List Entry) → ys ≡ xs ++ zs → r ≡ codes (last_of origin xs) zs → (e : Entry) × (zs : List Entry) × (ys ≡ (xs ++ e ∷ []) ++ zs)
-      split [] p q = let a = ap length (q ∙ codes_none (last_of origin xs)) in absurd (omega arith)
-      split (z ∷ zs) p q = (z, zs, p ∙ sym (append_assoc xs (z ∷ []) zs))
+total_grows : (f : ℕ → ℕ) (k d : ℕ) → total f k ≤ total f (k + d)
+unfolding total
+total_grows f k zero = let z = ap (λ n. total f n) (let z : k + 0 ≡ k = omega arith in z) in omega arith
+total_grows f k (suc d) =
+    let z = ap (λ n. total f n) (let z : k + suc d ≡ suc (k + d) = omega arith in z) in
+    let a = total_grows f k d in
+    omega arith
 
-  total_grows : (f : ℕ → ℕ) (k d : ℕ) → total f k ≤ total f (k + d)
-  unfolding total
-  total_grows f k zero = let z = ap (λ n. total f n) (let z : k + 0 ≡ k = omega arith in z) in omega arith
-  total_grows f k (suc d) =
-      let z = ap (λ n. total f n) (let z : k + suc d ≡ suc (k + d) = omega arith in z) in
-      let a = total_grows f k d in
-      omega arith
+total_next : (f : ℕ → ℕ) (n : ℕ) → total f (suc n) ≡ total f n + f n
+unfolding total
+total_next f n = refl
 
-  total_next : (f : ℕ → ℕ) (n : ℕ) → total f (suc n) ≡ total f n + f n
-  unfolding total
-  total_next f n = refl
+pub bad_row_means : (w : List ℕ) (n at : ℕ) → BadRow w n at → (es : List Entry) → DeltaMeans w es → ⊥
+bad_row_means w n at b es m =
+    let g = b.front in
+    let k : ℕ = b.place in
+    let inside = b.inside in
+    let long : start_in w (suc k) ≤ length w = start_in_bound (suc k) inside in
+    let whole : codes origin g.part ++ stretch w at (start_in w (suc k)) ≡ codes origin (in_bucket k es) =
+    ap (λ l. l ++ stretch w at (start_in w (suc k))) g.read
+    ∙ stretch_join w (start_in w k) at (start_in w (suc k)) g.behind (let h = b.follows in omega arith)
+    ∙ sym (table_laid es m.table w m.laid k inside) in
+    let more = goes_on k g.part (in_bucket k es) (stretch w at (start_in w (suc k))) g.bucket (table_bucket es m.table k) whole
+    (let a = stretch-length w at (start_in w (suc k)) long in let h = b.follows in omega arith) in
+    let e : Entry = more.0 in
+    let zs : List Entry = more.1 in
+    let is : in_bucket k es ≡ (g.part ++ e ∷ []) ++ zs = more.2 in
+    let kept : Bucket k (g.part ++ e ∷ []) = bucket_front k (g.part ++ e ∷ []) zs (subst (λ l. Bucket k l) is (table_bucket es m.table k)) in
+    let laid : codes origin (g.part ++ e ∷ []) ++ codes (last_of origin (g.part ++ e ∷ [])) zs ≡ stretch w (start_in w k) (start_in w (suc k)) =
+    sym (codes-append origin (g.part ++ e ∷ []) zs) ∙ ap (λ l. codes origin l) (sym is) ∙ table_laid es m.table w m.laid k inside in
+    let len : suc (length g.part) ≤ length (in_bucket k es) =
+    (let a = ap length is in let c = length-append (g.part ++ e ∷ []) zs in let d = length-append g.part (e ∷ []) in omega arith) in
+    let room : n < 1024 =
+    (let a = rows_total g.done k in
+    let c = total_same (λ j. length (g.done j)) (λ j. length (in_bucket j es)) k (λ j l. ap length (same_done j l)) in
+    let d = total_next (λ j. length (in_bucket j es)) k in
+    let f = total_grows (λ j. length (in_bucket j es)) (suc k) (63 - k) in
+    let z = ap (λ x. total (λ j. length (in_bucket j es)) x) (let z : suc k + (63 - k) ≡ 64 = omega arith in z) in
+    let t = total_all es in
+    let u = m.table.few in
+    let v = g.many in
+    omega arith) in
+    b.bad e (codes (last_of origin (g.part ++ e ∷ [])) zs) room kept laid
+  where
+    same_done : (j : ℕ) → j < b.place → b.front.done j ≡ in_bucket j es
+    same_done j l =
+        bucket_same j (b.front.done j) (in_bucket j es) (b.front.buckets j l) (table_bucket es m.table j)
+        (b.front.laid j l ∙ sym (table_laid es m.table w m.laid j (let h = b.inside in omega arith)))
 
-  rows_total_is : (bs : ℕ → List Entry) (n : ℕ) → rows_in bs n ≡ total (λ k. length (bs k)) n
-  unfolding total rows_in
-  rows_total_is bs zero = refl
-  rows_total_is bs (suc n) = ap (λ x. x + length (bs n)) (rows_total_is bs n)
-
-  pub bad_row_means : (w : List ℕ) (n at : ℕ) → BadRow w n at → (es : List Entry) → DeltaMeans w es → ⊥
-  bad_row_means w n at b es m =
-      let g = b.front in
-      let k : ℕ = b.place in
-      let inside = b.inside in
-      let long : start_in w (suc k) ≤ length w = start_in_bound (suc k) inside in
-      let whole : codes origin g.part ++ stretch w at (start_in w (suc k)) ≡ codes origin (in_bucket k es) =
-      ap (λ l. l ++ stretch w at (start_in w (suc k))) g.read
-      ∙ stretch_join w (start_in w k) at (start_in w (suc k)) g.behind (let h = b.follows in omega arith)
-      ∙ sym (table_laid known es m.table w m.laid k inside) in
-      let more = goes_on k g.part (in_bucket k es) (stretch w at (start_in w (suc k))) g.bucket (table_bucket es m.table k) whole
-      (let a = stretch-length w at (start_in w (suc k)) long in let h = b.follows in omega arith) in
-      let e : Entry = more.0 in
-      let zs : List Entry = more.1 in
-      let is : in_bucket k es ≡ (g.part ++ e ∷ []) ++ zs = more.2 in
-      let kept : Bucket k (g.part ++ e ∷ []) = bucket_front k (g.part ++ e ∷ []) zs (subst (λ l. Bucket k l) is (table_bucket es m.table k)) in
-      let laid : codes origin (g.part ++ e ∷ []) ++ codes (last_of origin (g.part ++ e ∷ [])) zs ≡ stretch w (start_in w k) (start_in w (suc k)) =
-      sym (codes-append origin (g.part ++ e ∷ []) zs) ∙ ap (λ l. codes origin l) (sym is) ∙ table_laid known es m.table w m.laid k inside in
-      let len : suc (length g.part) ≤ length (in_bucket k es) =
-      (let a = ap length is in let c = length-append (g.part ++ e ∷ []) zs in let d = length-append g.part (e ∷ []) in omega arith) in
-      let room : n < 1024 =
-      (let a = rows_total_is g.done k in
-      let c = total_same (λ j. length (g.done j)) (λ j. length (in_bucket j es)) k (λ j l. ap length (same_done j l)) in
-      let d = total_next (λ j. length (in_bucket j es)) k in
-      let f = total_grows (λ j. length (in_bucket j es)) (suc k) (63 - k) in
-      let z = ap (λ x. total (λ j. length (in_bucket j es)) x) (let z : suc k + (63 - k) ≡ 64 = omega arith in z) in
-      let t = total_all es in
-      let u = m.table.few in
-      let v = g.many in
-      omega arith) in
-      b.bad e (codes (last_of origin (g.part ++ e ∷ [])) zs) room kept laid
-    where
-      same_done : (j : ℕ) → j < b.place → b.front.done j ≡ in_bucket j es
-      same_done j l =
-          bucket_same j (b.front.done j) (in_bucket j es) (b.front.buckets j l) (table_bucket es m.table j)
-          (b.front.laid j l ∙ sym (table_laid known es m.table w m.laid j (let h = b.inside in omega arith)))
-
-      start_in_bound : (j : ℕ) → j ≤ 64 → start_in w j ≤ length w
-      start_in_bound j l = starts_inside w (table_starts known es m.table w m.laid) j l
+    start_in_bound : (j : ℕ) → j ≤ 64 → start_in w j ≤ length w
+    start_in_bound j l = starts_inside w (table_starts es m.table w m.laid) j l

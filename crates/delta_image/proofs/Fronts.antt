@@ -1,17 +1,17 @@
 -- Good rows, one more at a time.
-use Rattle.std.proofs.Common.{◌≡◌, ℕ, zero, suc, ◌+◌, ◌<◌, ◌≤◌, cond, eqb, List, [], ◌∷◌, ◌++◌, length, get_or, sym, refl, ap, ◌∙◌, subst, ⊎_elim, append_assoc, append-nil, arith}
-use Rattle.std.proofs.lemmas.List.{length-append, length_push, get_or_append_left, get_or_push, append_cancel_left, append_cancel_right}
+use Rattle.std.proofs.Common.{◌≡◌, ℕ, zero, suc, ◌+◌, ◌<◌, ◌≤◌, cond, eqb, List, [], ◌∷◌, ◌++◌, length, get_or, sym, refl, ap, ◌∙◌, subst, ⊎_elim, append_assoc, arith}
+use Rattle.std.proofs.lemmas.List.{length_push, get_or_append_left, get_or_push, append_cancel_left, append_cancel_right}
 use Rattle.std.proofs.lemmas.Bool.{cases_eq, cases_lt, eq-eqb, ne_eqb, cond-true, cond-false}
 use Rattle.frame_map.specs.Maps.{Point}
 use Rattle.frame_map.specs.Rows.{Lawful}
 use Rattle.frame_map.specs.Tables.{blank, entry_at}
 use Rattle.frame_map.specs.declared.row.Entry.{Entry}
-use Rattle.delta_layout.specs.Codes.{origin, code, codes, Next}
+use Rattle.delta_layout.specs.Codes.{origin, code, codes, Next, Chain, last_of}
+use Rattle.delta_layout.proofs.CodeLaws.{code_unique, codes_none, codes_one, codes-append, no_codes}
 use Rattle.delta_image.specs.Buckets.{bucket_of, DeltaMeans}
 use Rattle.delta_image.specs.Images.{start_in, stretch, GoodStarts, Bucket, rows_in, GoodFront, BadRow}
-use Rattle.delta_image.proofs.Chains.{Chain, last_of, Coding, bucket_chain}
-use Rattle.delta_image.proofs.Coded.{coding}
-use Rattle.delta_image.proofs.Exact.{codes-append, image_of_table, merged_length}
+use Rattle.delta_image.proofs.Chains.{bucket_chain}
+use Rattle.delta_image.proofs.Exact.{image_of_table, merged_length}
 use Rattle.delta_image.proofs.Merging.{merged}
 use Rattle.delta_image.proofs.Stretches.{stretch_join, stretch_none}
 
@@ -23,14 +23,6 @@ no_bucket b = record {
   belongs = λ i l. absurd (omega arith);
 }
 
-codes_nil : (b : Entry) → codes b [] ≡ []
-unfolding codes
-codes_nil b = refl
-
-codes_one : (b e : Entry) → codes b (e ∷ []) ≡ code b e
-unfolding codes
-codes_one b e = append-nil (code b e)
-
 pub front_none : (w : List ℕ) → GoodStarts w 65 → GoodFront w 0 (start_in w 0) 0
 unfolding rows_in
 front_none w g = record {
@@ -41,7 +33,7 @@ front_none w g = record {
   part = [];
   bucket = no_bucket 0;
   behind = omega arith;
-  read = codes_nil origin ∙ sym (stretch_none w (start_in w 0));
+  read = codes_none origin ∙ sym (stretch_none w (start_in w 0));
   many = refl;
   few = omega arith;
 }
@@ -124,7 +116,7 @@ front_bucket w b n inside g = record {
   part = [];
   bucket = no_bucket (suc b);
   behind = omega arith;
-  read = codes_nil origin ∙ sym (stretch_none w (start_in w (suc b)));
+  read = codes_none origin ∙ sym (stretch_none w (start_in w (suc b)));
   many = let a = rows_same b (omega arith) in let c = ap length (at_b b refl) in let d = g.many in omega arith;
   few = g.few;
 }
@@ -149,11 +141,6 @@ front_bucket w b n inside g = record {
     rows_same zero l = refl
     rows_same (suc k) l = let a = rows_same k (omega arith) in let c = ap length (below_b k (λ z. omega arith)) in omega arith
 
-pub nothing : (b : Entry) (zs : List Entry) → codes b zs ≡ [] → zs ≡ []
-unfolding codes
-nothing b [] h = refl
-nothing b (z ∷ zs) h = let a = ap length h in let c = length-append (code b z) (codes z zs) in let s = coding.some b z in absurd (omega arith)
-
 -- all rows of all buckets
 pub front_table : (w : List ℕ) (n : ℕ) → ((i : ℕ) → get_or w i 0 < 256) → (g : GoodFront w 64 (start_in w 64) n) → DeltaMeans w (merged g.done 65536)
 front_table w n byte g = image_of_table w byte g.starts g.done g.buckets g.laid (let a = g.many in let b = g.few in omega arith)
@@ -167,9 +154,9 @@ front_length w n byte g =
     omega arith
   where
     no_part : (w : List ℕ) (b n : ℕ) (g : GoodFront w b (start_in w b) n) → g.part ≡ []
-    no_part w b n g = nothing origin g.part (g.read ∙ stretch_none w (start_in w b))
+    no_part w b n g = no_codes origin g.part (g.read ∙ stretch_none w (start_in w b))
 
-module _ (known : Coding) (w : List ℕ) (b at n : ℕ) (g : GoodFront w b at n) (inside : b < 64) (goes : at < start_in w (suc b)) where
+module _ (w : List ℕ) (b at n : ℕ) (g : GoodFront w b at n) (inside : b < 64) (goes : at < start_in w (suc b)) where
   -- what lies at the byte `at`, if one row more is laid out there
   after : (e : Entry) (q : List ℕ) → codes origin (g.part ++ e ∷ []) ++ q ≡ stretch w (start_in w b) (start_in w (suc b)) →
       stretch w at (start_in w (suc b)) ≡ code (last_of origin g.part) e ++ q
@@ -198,7 +185,7 @@ module _ (known : Coding) (w : List ℕ) (b at n : ℕ) (g : GoodFront w b at n)
     front = g;
     follows = goes;
     bad = λ e' q' room k h'.
-        let same : e ≡ e' = known.same (last_of origin g.part) e e' q q' lawful next (bucket_next b g.part e' k) (sym h ∙ after e' q' h') in
+        let same : e ≡ e' = (code_unique (last_of origin g.part) e e' q q' lawful next (bucket_next b g.part e' k) (sym h ∙ after e' q' h')).0 in
         let last : bucket_of (entry_at (g.part ++ e' ∷ []) (length g.part)).point ≡ b = k.belongs (length g.part) (let a = length_push g.part e' in omega arith) in
         other (ap (λ x. bucket_of x.point) (same ∙ sym (get_or_push g.part e' blank (length g.part) refl)) ∙ last);
   }

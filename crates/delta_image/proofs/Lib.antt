@@ -1,5 +1,4 @@
 pub mod Chains
-pub mod Coded
 pub mod Exact
 pub mod Fronts
 pub mod Layouts

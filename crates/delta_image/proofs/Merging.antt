@@ -3,7 +3,7 @@ use Rattle.std.proofs.Common.{◌≡◌, ℕ, zero, suc, ◌+◌, ◌*◌, ◌%�
 use Rattle.std.proofs.lemmas.Nat.{div_below, mod_below}
 use Rattle.std.proofs.lemmas.Bool.{cases_eq, cases_lt, eq-eqb, ne_eqb, cond-true, cond-false}
 use Rattle.frame_map.specs.Maps.{entries_below}
-use Rattle.frame_map.specs.Tables.{row_for}
+use Rattle.frame_map.specs.Tables.{row_for, entry_at}
 use Rattle.frame_map.specs.declared.row.Entry.{Entry}
 use Rattle.delta_image.specs.Buckets.{bucket_of, in_bucket}
 use Rattle.frame_map.proofs.Listing.{listed_rises, listed_rows}
@@ -63,10 +63,23 @@ row_out_of_bucket b p (e ∷ es) ne =
     (λ (z : bucket_of e.point ≡ b → ⊥). ap (λ l. row_for p l) (in_same b e es z) ∙ row_out_of_bucket b p es ne)
     (cases_eq (bucket_of e.point) b)
 
+-- a fact of each entry
+abbrev pub Each : (Entry → Type 0) → List Entry → Type 0
+Each P [] = Unit {0}
+Each P (e ∷ es) = P e × Each P es
+
+pub each_at : (P : Entry → Type 0) (es : List Entry) → Each P es → (i : ℕ) → i < length es → P (entry_at es i)
+each_at P [] h i l = absurd (omega arith)
+each_at P (e ∷ es) h zero l = h.0
+each_at P (e ∷ es) h (suc i) l = each_at P es h.1 i (omega arith)
+
+pub each_from : (P : Entry → Type 0) (es : List Entry) → ((i : ℕ) → i < length es → P (entry_at es i)) → Each P es
+each_from P [] f = tt
+each_from P (e ∷ es) f = (f 0 (omega arith), each_from P es (λ i l. f (suc i) (omega arith)))
+
 -- all entries belong to bucket b
 abbrev pub Belong : ℕ → List Entry → Type 0
-Belong b [] = Unit {0}
-Belong b (e ∷ es) = (bucket_of e.point ≡ b) × Belong b es
+Belong b es = Each (λ e. bucket_of e.point ≡ b) es
 
 pub belong_none : (b p : ℕ) (es : List Entry) → Belong b es → (bucket_of p ≡ b → ⊥) → row_for p es ≡ None
 belong_none b p [] h ne = row_for_nil p

@@ -1,23 +1,17 @@
 -- Parts of an image.
 use Rattle.std.proofs.Common.{◌≡◌, ℕ, ◌+◌, ◌-◌, ◌≤◌, List, [], ◌++◌, length, take, drop, sym, ap, ◌∙◌, arith}
-use Rattle.std.proofs.lemmas.List.{length-take-le, length-drop, take-append-drop, take-take, drop-drop, drop-take, take_at, drop_at}
+use Rattle.std.proofs.lemmas.List.{length-take-le, length-drop, drop-drop, take_at, drop_at}
+use Rattle.std.proofs.Math.Seq.{take-add}
 use Rattle.delta_image.specs.Images.{stretch}
 
 pub stretch-length : (w : List ℕ) (a b : ℕ) → b ≤ length w → length (stretch w a b) ≡ b - a
 stretch-length w a b l = length-take-le (b - a) (drop a w) (omega (arith, length-drop a w))
 
--- a list cut at m, below n
-take_parts : (m n : ℕ) (xs : List ℕ) → take (m + n) xs ≡ take m xs ++ take n (drop m xs)
-take_parts m n xs =
-    sym (take-append-drop m (take (m + n) xs))
-    ∙ ap (λ l. l ++ drop m (take (m + n) xs)) (take-take m (m + n) xs (omega arith))
-    ∙ ap (λ l. take m xs ++ l) (drop-take m n xs)
-
 pub stretch_join : (w : List ℕ) (a b c : ℕ) → a ≤ b → b ≤ c → stretch w a b ++ stretch w b c ≡ stretch w a c
 stretch_join w a b c l m =
     let e : drop b w ≡ drop (b - a) (drop a w) = ap (λ n. drop n w) (let z : b ≡ a + (b - a) = omega arith in z) ∙ sym (drop-drop (b - a) a w) in
     ap (λ l. stretch w a b ++ take (c - b) l) e
-    ∙ sym (take_parts (b - a) (c - b) (drop a w))
+    ∙ sym (take-add (b - a) (c - b) (drop a w))
     ∙ ap (λ n. take n (drop a w)) (let z : (b - a) + (c - b) ≡ c - a = omega arith in z)
 
 pub stretch_none : (w : List ℕ) (a : ℕ) → stretch w a a ≡ []

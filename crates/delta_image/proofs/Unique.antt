@@ -7,7 +7,6 @@ use native.Mathlib.Nat.{ℕ_set}
 use Rattle.frame_map.specs.declared.row.Entry.{Entry}
 use Rattle.frame_map.proofs.LawfulProp.{table_prop}
 use Rattle.delta_image.specs.Buckets.{DeltaMeans, delta_bytes}
-use Rattle.delta_image.proofs.Coded.{coding}
 use Rattle.delta_image.proofs.Exact.{table_unique}
 
 means_prop : (w : List ℕ) (es : List Entry) → IsProp (DeltaMeans w es)
@@ -17,7 +16,7 @@ means_prop w es x y = λ i. record {
 }
 
 pub one_table : (w : List ℕ) → IsProp ((es : List Entry) × DeltaMeans w es)
-one_table w u v = Σ_prop_path (means_prop w) (table_unique coding w u.0 v.0 u.1 v.1)
+one_table w u v = Σ_prop_path (means_prop w) (table_unique w u.0 v.0 u.1 v.1)
 
 -- the table of an image that has one
 pub the_table : (w : List ℕ) → ∥ ((es : List Entry) × DeltaMeans w es) ∥₁ → ((es : List Entry) × DeltaMeans w es)

@@ -8,5 +8,5 @@ ghost use Rattle.delta_image.specs.Buckets.{bucket_of};
 pub fn bucket(point: u16) -> usize
     ensures { result ≡ bucket_of point }
 {
-    (point.wrapping_mul(40_503) >> 10) as usize
+    usize::from(point.wrapping_mul(40_503) >> 10)
 }

@@ -295,11 +295,33 @@ origin_lawful = record {
         (λ (l : 8 ≤ k). omega (arith, get_or_past {X = ℕ} (replicate 8 0) k 0 l))
         (cases_lt k 8)
 
+-- the codes of no row, of a row with more behind it, of one row, and of rows that are put together
+pub codes_none : (b : Entry) → codes b [] ≡ []
+unfolding codes
+codes_none b = refl
+
+pub codes-cons : (b e : Entry) (es : List Entry) → codes b (e ∷ es) ≡ code b e ++ codes e es
+unfolding codes
+codes-cons b e es = refl
+
+pub codes_one : (b e : Entry) → codes b (e ∷ []) ≡ code b e
+unfolding codes
+codes_one b e = append-nil (code b e)
+
+pub codes-append : (b : Entry) (xs ys : List Entry) → codes b (xs ++ ys) ≡ codes b xs ++ codes (last_of b xs) ys
+unfolding codes
+codes-append b [] ys = refl
+codes-append b (x ∷ xs) ys = ap (λ l. code b x ++ l) (codes-append x xs ys) ∙ sym (append_assoc (code b x) (codes x xs) (codes (last_of x xs) ys))
+
+-- where there are no codes, there is no row
+pub no_codes : (b : Entry) (es : List Entry) → codes b es ≡ [] → es ≡ []
+unfolding codes
+no_codes b [] h = refl
+no_codes b (e ∷ es) h = absurd (omega (arith, ap length h, length-append (code b e) (codes e es), code-length b e))
+
 -- one row more
 pub codes-push : (b : Entry) (es : List Entry) (e : Entry) → codes b (es ++ e ∷ []) ≡ codes b es ++ code (last_of b es) e
-unfolding codes last_of
-codes-push b [] e = append-nil (code b e)
-codes-push b (x ∷ es) e = ap (λ l. code b x ++ l) (codes-push x es e) ∙ sym (append_assoc (code b x) (codes x es) (code (last_of x es) e))
+codes-push b es e = codes-append b es (e ∷ []) ∙ ap (λ l. codes b es ++ l) (codes_one (last_of b es) e)
 
 -- rows take 2 to 20 bytes each
 pub codes-length : (b : Entry) (es : List Entry) → (2 * length es ≤ length (codes b es)) × (length (codes b es) ≤ 20 * length es)
@@ -313,7 +335,7 @@ codes-length b (e ∷ es) =
 
 -- the bytes tell the rows
 pub codes_unique : (b : Entry) (es es' : List Entry) → Lawful b.row → Chain b es → Chain b es' → codes b es ≡ codes b es' → es ≡ es'
-unfolding codes Chain
+unfolding codes
 codes_unique b [] [] l c c' h = refl
 codes_unique b [] (e ∷ es) l c c' h = let n = code-length b e in absurd (omega (arith, ap length h, length-append (code b e) (codes e es)))
 codes_unique b (e ∷ es) [] l c c' h = let n = code-length b e in absurd (omega (arith, ap length h, length-append (code b e) (codes e es)))

@@ -7,12 +7,12 @@ use Rattle.delta_layout.specs.Parsing.{Parsed, and_then, only_if, byte_in, numbe
 
 -- what was read before something was read
 pub then_some : {A B : Type 0} (o : Parsed A) (f : A → List ℕ → Parsed B) (v : B) (q : List ℕ) → and_then o f ≡ Some (v, q) → (x : A) × (r : List ℕ) × (o ≡ Some (x, r)) × (f x r ≡ Some (v, q))
-then_some None f v q h = let z : ◌≡◌ {A = ℕ} 0 1 = cc in absurd (omega arith)
+then_some None f v q h = cc
 then_some (Some p) f v q h = (p.0, p.1, refl, h)
 
 pub if_some : {A : Type 0} (b : Bool) (o : Option A) (v : A) → only_if b o ≡ Some v → (b ≡ true) × (o ≡ Some v)
 if_some true o v h = (refl, h)
-if_some false o v h = let z : ◌≡◌ {A = ℕ} 0 1 = cc in absurd (omega arith)
+if_some false o v h = cc
 
 pub then_at : {A B : Type 0} (o : Parsed A) (f : A → List ℕ → Parsed B) (x : A) (r : List ℕ) → o ≡ Some (x, r) → and_then o f ≡ f x r
 then_at o f x r h = ap (λ p. and_then p f) h
@@ -28,7 +28,7 @@ pub same_rest : {A : Type 0} (x y : A) (q r : List ℕ) → ◌≡◌ {A = Parse
 same_rest {A} x y q r h = let p : ◌≡◌ {A = A × List ℕ} (x, q) (y, r) = cc in ap (λ (p : A × List ℕ). p.1) p
 
 pub byte_sound : (bs : List ℕ) (x : ℕ) (r : List ℕ) → byte_in bs ≡ Some (x, r) → (bs ≡ x ∷ r) × (x < 256)
-byte_sound [] x r h = let z : ◌≡◌ {A = ℕ} 0 1 = cc in absurd (omega arith)
+byte_sound [] x r h = cc
 byte_sound (b ∷ bs) x r h =
     let t = if_some (ltb b 256) (Some (b, bs)) (x, r) h in
     let e : b ≡ x = same_value b x bs r t.1 in
@@ -128,7 +128,7 @@ step_whole s q pos most = step_whole_at (ltb 255 s) s q refl pos most
 
 -- the size
 pub rest_some : (o : Option ℕ) (q : List ℕ) (y : ℕ) (r : List ℕ) → with_rest o q ≡ Some (y, r) → (o ≡ Some y) × (q ≡ r)
-rest_some None q y r h = let z : ◌≡◌ {A = ℕ} 0 1 = cc in absurd (omega arith)
+rest_some None q y r h = cc
 rest_some (Some x) q y r h = (ap Some (same_value x y q r h), same_rest x y q r h)
 
 shifted_sound : (x d y : ℕ) → d < 256 → (d ≡ 0 → ⊥) → shifted x d ≡ Some y → (x ≡ y → ⊥) × (d ≡ signed_difference x y)

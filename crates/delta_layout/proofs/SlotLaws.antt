@@ -1,7 +1,7 @@
 -- The saved slots that differ are read exactly if their code stands there.
-use Rattle.std.proofs.Common.{◌≡◌, ℕ, zero, suc, ◌/◌, ◌%◌, ◌^◌, ◌<◌, ◌≤◌, Bool, true, false, cond, not, eqb, List, [], ◌∷◌, ◌++◌, length, get_or, set, Some, sym, refl, ap, ◌∙◌, subst, ⊎_elim, arith}
+use Rattle.std.proofs.Common.{◌≡◌, ℕ, zero, suc, ◌/◌, ◌%◌, ◌^◌, ◌<◌, ◌≤◌, Bool, true, false, cond, not, eqb, List, [], ◌∷◌, ◌++◌, length, get_or, set, Some, sym, refl, ap, ◌∙◌, ⊎_elim, arith, below_more}
 use Rattle.std.proofs.lemmas.List.{append_assoc, length-set, get_or-set_same, get_or-set_other, ext_get_or}
-use Rattle.std.proofs.lemmas.Bool.{eqb-true, eq-eqb, cases_eq, not-true, not-false, not_from_false, not_from_true, cases_Bool}
+use Rattle.std.proofs.lemmas.Bool.{eqb-true, eq-eqb, not-true, not-false, not_from_false, not_from_true, cases_Bool}
 use Rattle.words.proofs.BitLaws.{bit_of_zero}
 use Rattle.delta_layout.specs.Codes.{moved, moved_mask, moved_slots, resaved}
 use Rattle.delta_layout.specs.Parsing.{only_if, stands, byte_in, slot_in, slots_in, saved_in}
@@ -25,7 +25,7 @@ pub record Slots (m : ℕ) (xs : List ℕ) (n : ℕ) (bs ys r : List ℕ) : Type
 
 -- what holds below n, and at n, holds below n + 1
 below_next : (P : ℕ → Type 0) (n : ℕ) → ((k : ℕ) → k < n → P k) → P n → (k : ℕ) → k < suc n → P k
-below_next P n f p k l = ⊎_elim (λ (e : k ≡ n). subst P (sym e) p) (λ (ne : k ≡ n → ⊥). f k (omega arith)) (cases_eq k n)
+below_next P n f p k l = below_more P n f p k (omega arith)
 
 -- one register more
 slot_sound : (t : Bool) (m : ℕ) (xs : List ℕ) (n : ℕ) (bs zs q ys r : List ℕ) → n < length xs → Slots m xs n bs zs q → stands m n ≡ t → slot_in t n zs q ≡ Some (ys, r) → Slots m xs (suc n) bs ys r

@@ -91,11 +91,11 @@ codes b [] = []
 codes b (e ∷ es) = code b e ++ codes e es
 
 -- each row may follow the one before it, the first b
-unfoldable pub Chain : Entry → List Entry → Type 0
+abbrev pub Chain : Entry → List Entry → Type 0
 Chain b [] = Unit {0}
 Chain b (e ∷ es) = Next b e × Chain e es
 
 -- the last of the rows, or b where there is none
-unfoldable pub last_of : Entry → List Entry → Entry
+abbrev pub last_of : Entry → List Entry → Entry
 last_of b [] = b
 last_of b (e ∷ es) = last_of e es

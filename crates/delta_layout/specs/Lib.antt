@@ -1,3 +1,4 @@
 pub mod Bytes
 pub mod Codes
+pub mod Fields
 pub mod Parsing

@@ -6,7 +6,12 @@ ghost use Rattle.delta_layout.specs.Codes.{origin};
 
 use frame_map::{Entry, Row};
 
-pub mod flags;
+mod field;
+
+pub use field::Field;
+
+// The largest step that takes one byte.
+pub const NARROW_END: u32 = 255;
 
 // What the first row of a bucket is coded against.
 pub fn first_before() -> Entry

@@ -1,3 +1,4 @@
 pub mod Faults
+pub mod Leaving
 pub mod Meaning
 pub mod Starting

@@ -18,8 +18,7 @@ impl From<(usize, ReaderFault)> for MapFault {
     ghost from_gives = { λ f r. (r.row ≡ f.0) × (r.byte ≡ f.1.byte) };
 
     fn from(f: (usize, ReaderFault)) -> MapFault {
-        let (row, fault) = f;
-        let byte = fault.byte;
+        let (row, ReaderFault { byte }) = f;
         MapFault { row, byte }
     }
 }
@@ -28,8 +27,8 @@ impl From<MapFault> for Refusal {
     ghost from_gives = { λ f r. r ≡ BadImage (delta_fault f.row f.byte) };
 
     fn from(f: MapFault) -> Refusal {
-        let row = f.row;
-        let place = Place::Byte(f.byte);
+        let MapFault { row, byte } = f;
+        let place = Place::Byte(byte);
         Refusal::BadImage(ImageFault { row, place })
     }
 }

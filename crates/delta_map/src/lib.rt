@@ -5,6 +5,7 @@ mod check;
 mod faults;
 mod map;
 mod methods;
+mod rows;
 mod search;
 mod starts;
 

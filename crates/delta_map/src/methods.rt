@@ -16,7 +16,7 @@ impl DeltaMap {
     pub fn new(image: Vec<u8>) -> Result<DeltaMap, Refusal>
         ensures { MatchResult result (MadeFromDelta image.items) (RefusedDelta image.items) }
     {
-        let _rows = check_delta(image.as_slice())?;
+        check_delta(image.as_slice())?;
         Ok(DeltaMap { image, count: 0 })
     }
 }
@@ -34,9 +34,7 @@ impl FrameMap for DeltaMap {
 
     fn lookup(&mut self, point: u32) -> Option<Row> {
         self.count = self.count.wrapping_add(1);
-        let Ok(point) = u16::try_from(point) else {
-            return None;
-        };
+        let point = u16::try_from(point).ok()?;
         find(self.image.as_slice(), point)
     }
 

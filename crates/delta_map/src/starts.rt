@@ -16,7 +16,7 @@ pub(crate) fn start_at(image: &[u8], k: usize) -> usize
     requires { 2 * k + 2 ≤ length image.now }
     ensures { result ≡ start_in image.now k }
 {
-    image[2 * k] as usize + image[2 * k + 1] as usize * 256
+    usize::from(u16::from_le_bytes([image[2 * k], image[2 * k + 1]]))
 }
 
 // Start `k`, if it keeps the rules behind a start at `last`.
@@ -45,12 +45,12 @@ pub(crate) fn check_starts(image: &[u8]) -> Result<(), MapFault>
     ensures { MatchResult result (λ _. GoodStarts image.now 65) (λ f. StartFault image.now f.row f.byte) }
 {
     let mut last = 0;
+    // By number, since the rules of a start go by it.
     for k in 0..65 {
-        let Some(start) = next_start(image, k, last) else {
-            let byte = 2 * k;
-            return Err(MapFault { row: 0, byte });
-        };
-        last = start;
+        last = next_start(image, k, last).ok_or(MapFault {
+            row: 0,
+            byte: 2 * k,
+        })?;
     }
     Ok(())
 }

@@ -4,12 +4,11 @@ use Rattle.delta_writer.specs.declared.RowCode.{RowCode}
 
 -- the bytes that are made
 abbrev pub made : RowCode → List ℕ
-made c = take c.filled c.buffer
+made c = c.bytes.items
 
 -- the bytes xs are added
-pub record Added (xs : List ℕ) (s t : RowCode) : Type 0 where
-  pub longer : t.filled ≡ s.filled + length xs
-  pub behind : made t ≡ made s ++ xs
+abbrev pub Added : List ℕ → RowCode → RowCode → Type 0
+Added xs s t = made t ≡ made s ++ xs
 
 -- the bytes xs stand in the buffer from place i on, up to place j; all others are as they were
 pub record Wrote (xs : List ℕ) (i : ℕ) (before : List ℕ) (after : List ℕ) (j : ℕ) : Type 0 where

@@ -3,37 +3,37 @@
 
 ghost use Rattle.std.specs.Prelude.{◌≡◌, ◌+◌, ◌^◌, ◌<◌, ◌≤◌, [], ◌∷◌, length, MatchOption};
 ghost use Rattle.delta_layout.specs.Bytes.{bytes};
+ghost use Rattle.delta_layout.specs.Fields.{bit_of};
 ghost use Rattle.delta_layout.specs.Codes.{flag, changed, resized, moved_mask, resaved, step_code, code_bits, code};
 ghost use Rattle.delta_writer.specs.Writing.{made, Added, Wrote, Unwritten};
 
-use delta_layout::flags::{REGISTERS, SAVED, SIZE, SLOTS, UNTOUCHED, WIDE};
+use arrayvec::ArrayVec;
+use delta_layout::{Field, NARROW_END};
 use frame_map::Entry;
 
-// The largest step that takes one byte.
-const NARROW_END: u32 = 255;
-
-// The code of a row as far as it is made: the first `filled` bytes of the buffer.
+// The code of a row as far as it is made.
 #[derive(Drop)]
 struct RowCode {
-    buffer: [u8; 20],
-    filled: usize,
+    bytes: ArrayVec<u8, 20>,
 }
 
-// Bit `bit` where a fact stands.
-fn flag_bit(bit: u8, present: bool) -> u8
-    requires { bit < 8 }
-    ensures { result ≡ flag bit present }
+// The bit of a field where a fact stands.
+fn flag_bit(field: Field, present: bool) -> u8
+    ensures { result ≡ flag (bit_of field) present }
 {
-    if present { 1 << bit } else { 0 }
+    if present { 1 << field.bit() } else { 0 }
 }
 
 // The callee-save registers whose saved slots differ.
+#[tactic(auto, using(crate::proofs::WriterLaws::mask_fits, crate::proofs::WriterLaws::mask_begin, crate::proofs::WriterLaws::mask_more))]
 fn moved_registers(was: &[u8; 8], saved: &[u8; 8]) -> u8
     ensures { result ≡ moved_mask was.now saved.now }
 {
     let mut mask = 0;
-    for k in 0..8 {
-        mask += flag_bit(k as u8, was[k] != saved[k]);
+    for (k, (old, new)) in was.iter().zip(saved).enumerate() {
+        if old != new {
+            mask += 1 << k;
+        }
     }
     mask
 }
@@ -45,26 +45,24 @@ fn bit_map(before: &Entry, entry: &Entry) -> u8
     let was = &before.row;
     let row = &entry.row;
     let step = entry.point.saturating_sub(before.point);
-    flag_bit(SIZE, was.size != row.size)
-        + flag_bit(SLOTS, was.slots != row.slots)
-        + flag_bit(REGISTERS, was.registers != row.registers)
-        + flag_bit(UNTOUCHED, was.untouched != row.untouched)
-        + flag_bit(SAVED, moved_registers(&was.saved, &row.saved) != 0)
-        + flag_bit(WIDE, u32::from(step) > NARROW_END)
+    flag_bit(Field::Size, was.size != row.size)
+        + flag_bit(Field::Slots, was.slots != row.slots)
+        + flag_bit(Field::Registers, was.registers != row.registers)
+        + flag_bit(Field::Untouched, was.untouched != row.untouched)
+        + flag_bit(Field::Saved, moved_registers(&was.saved, &row.saved) != 0)
+        + flag_bit(Field::Wide, u32::from(step) > NARROW_END)
 }
 
 impl RowCode {
     // The code of a row against the row before it.
+    #[tactic(auto, using(crate::proofs::WriterLaws::part_lengths))]
     fn new(before: &Entry, entry: &Entry) -> RowCode
-        ensures coded { made result ≡ code before.now entry.now }
-        ensures long { result.filled ≡ length (code before.now entry.now) }
-        ensures fits { result.filled ≤ 20 }
+        ensures { made result ≡ code before.now entry.now }
     {
         let was = &before.row;
         let row = &entry.row;
         let mut made = RowCode {
-            buffer: [0; 20],
-            filled: 0,
+            bytes: ArrayVec::new(),
         };
         made.push(bit_map(before, entry));
         made.stepped(entry.point.saturating_sub(before.point));
@@ -77,28 +75,28 @@ impl RowCode {
     }
 
     fn push(&mut self, byte: u8)
-        requires { self.old.filled < 20 }
+        requires { length (made self.old) < 20 }
         ensures { Added (byte ∷ []) self.old self.new }
     {
-        self.buffer[self.filled] = byte;
-        self.filled += 1;
+        self.bytes.push(byte);
     }
 
     // A number in `count` bytes, low byte first.
-    fn number(&mut self, count: u8, value: u32)
-        requires { self.old.filled + count ≤ 20 }
+    #[tactic(auto, using(crate::proofs::WriterLaws::low_bytes))]
+    fn number(&mut self, count: usize, value: u32)
+        requires short { count ≤ 4 }
+        requires room { length (made self.old) + count ≤ 20 }
         ensures { Added (bytes count value) self.old self.new }
     {
-        if count == 0 {
-            return;
-        }
-        self.push((value % 256) as u8);
-        self.number(count - 1, value / 256);
+        self.bytes
+            .try_extend_from_slice(&value.to_le_bytes()[..count])
+            .unwrap();
     }
 
     // A field in `count` bytes, where it differs.
-    fn changed(&mut self, count: u8, was: u32, value: u32)
-        requires { self.old.filled + count ≤ 20 }
+    fn changed(&mut self, count: usize, was: u32, value: u32)
+        requires short { count ≤ 4 }
+        requires room { length (made self.old) + count ≤ 20 }
         ensures { Added (changed count was value) self.old self.new }
     {
         if was == value {
@@ -109,7 +107,7 @@ impl RowCode {
 
     // The size difference as a signed byte, where the sizes differ.
     fn resized(&mut self, was: u8, size: u8)
-        requires { self.old.filled < 20 }
+        requires { length (made self.old) < 20 }
         ensures { Added (resized was size) self.old self.new }
     {
         if was == size {
@@ -120,19 +118,17 @@ impl RowCode {
 
     // The step, in two bytes only where one does not do.
     fn stepped(&mut self, step: u16)
-        requires { self.old.filled + 2 ≤ 20 }
+        requires { length (made self.old) + 2 ≤ 20 }
         ensures { Added (step_code step) self.old self.new }
     {
-        if u32::from(step) <= NARROW_END {
-            self.number(1, u32::from(step));
-            return;
-        }
-        self.number(2, u32::from(step));
+        let count = if u32::from(step) <= NARROW_END { 1 } else { 2 };
+        self.number(count, u32::from(step));
     }
 
     // The saved slots that differ: a bit for each, then the slots.
+    #[tactic(auto, using(crate::proofs::WriterLaws::part_lengths, delta_layout::proofs::CodeLaws::slots_length), unfolding(delta_layout::specs::Codes::moved_slots, delta_layout::specs::Bytes::bytes))]
     fn resaved(&mut self, was: &[u8; 8], saved: &[u8; 8])
-        requires { self.old.filled + 9 ≤ 20 }
+        requires { length (made self.old) + 9 ≤ 20 }
         ensures { Added (resaved was.now saved.now) self.old self.new }
     {
         let moved = moved_registers(was, saved);
@@ -140,8 +136,8 @@ impl RowCode {
             return;
         }
         self.push(moved);
-        for k in 0..8 {
-            self.changed(1, u32::from(was[k]), u32::from(saved[k]));
+        for (old, new) in was.iter().zip(saved) {
+            self.changed(1, u32::from(*old), u32::from(*new));
         }
     }
 }
@@ -150,7 +146,7 @@ impl RowCode {
 pub fn row_length(before: &Entry, entry: &Entry) -> usize
     ensures { result ≡ length (code before.now entry.now) }
 {
-    RowCode::new(before, entry).filled
+    RowCode::new(before, entry).bytes.len()
 }
 
 // Writes the code of a row against the row before it from `at` on, and answers the place behind it.
@@ -158,14 +154,12 @@ pub fn row_length(before: &Entry, entry: &Entry) -> usize
 pub fn write_row(out: &mut [u8], at: usize, before: &Entry, entry: &Entry) -> Option<usize>
     ensures { MatchOption result (Unwritten (code before.now entry.now) at out.old out.new) (Wrote (code before.now entry.now) at out.old out.new) }
 {
-    let row = RowCode::new(before, entry);
-    if at > out.len() {
+    let row = RowCode::new(before, entry).bytes;
+    let end = at.checked_add(row.len())?;
+    if end > out.len() {
         return None;
     }
-    if out.len() - at < row.filled {
-        return None;
-    }
-    let end = at + row.filled;
-    out[at..end].copy_from_slice(&row.buffer[0..row.filled]);
+    // By a range: of what is written through `get_mut`, a proof knows only the length.
+    out[at..end].copy_from_slice(row.as_slice());
     Some(end)
 }

@@ -1,37 +1,34 @@
 // Reading rows, each against the row before it.
-ghost use Rattle.std.specs.Prelude.{◌≡◌, ◌<◌, ◌≤◌, MatchResult};
+ghost use Rattle.std.specs.Prelude.{◌≡◌, ◌≤◌, MatchResult};
+ghost use Rattle.delta_layout.specs.Fields.{bit_of};
 ghost use Rattle.delta_layout.specs.Parsing.{stands, byte_in, number_in, changed_in, step_in, size_in, saved_in, row_in, entry_in};
 ghost use Rattle.delta_code.specs.Reading.{Took, GotRow, NoRow};
 
 use super::{Reader, ReaderFault};
-use delta_layout::flags::{REGISTERS, SAVED, SIZE, SLOTS, UNTOUCHED, WIDE};
+use delta_layout::{Field, NARROW_END};
 use frame_map::{Entry, Row};
+use words::has_bit;
 
-// The largest step that takes one byte.
-const NARROW_END: u32 = 255;
 // No bit of the bit map byte stands from here on.
 const FLAGS_END: u8 = 64;
 
-fn has_flag(flags: u8, bit: u8) -> bool
-    requires { bit < 8 }
-    ensures { result ≡ stands flags bit }
+fn has_flag(flags: u8, field: Field) -> bool
+    ensures { result ≡ stands flags (bit_of field) }
 {
-    (flags >> bit) % 2 == 1
+    has_bit(u32::from(flags), u32::from(field.bit()))
 }
 
 impl Reader<'_> {
     fn byte(&mut self) -> Option<u8>
         ensures { Took byte_in result self.old self.new }
     {
-        if self.at >= self.image.len() {
-            return None;
-        }
-        let byte = self.image[self.at];
+        let byte = *self.image.get(self.at)?;
         self.at += 1;
         Some(byte)
     }
 
-    // A number of `bytes` bytes, low byte first.
+    // A number of `bytes` bytes, low byte first. A recursion, since it may stop at each byte; a loop over the bytes is no plainer.
+    #[tactic(auto, unfolding(delta_layout::specs::Parsing::number_in))]
     fn number(&mut self, bytes: u8) -> Option<u32>
         requires { bytes ≤ 4 }
         ensures { Took (number_in bytes) result self.old self.new }
@@ -45,6 +42,7 @@ impl Reader<'_> {
     }
 
     // A field of `bytes` bytes that was `was`: another value where its bit stands, else the same.
+    #[tactic(auto, unfolding(delta_layout::specs::Parsing::changed_in))]
     fn changed(&mut self, present: bool, bytes: u8, was: u32) -> Option<u32>
         requires { bytes ≤ 4 }
         ensures { Took (changed_in bytes present was) result self.old self.new }
@@ -60,24 +58,20 @@ impl Reader<'_> {
     }
 
     // The step from point to point: two bytes only where one does not do.
+    #[tactic(auto, unfolding(delta_layout::specs::Parsing::step_in))]
     fn step(&mut self, wide: bool) -> Option<u16>
         ensures { Took (step_in wide) result self.old self.new }
     {
-        if !wide {
-            let step = self.number(1)?;
-            if step == 0 {
-                return None;
-            }
-            return Some(step as u16);
-        }
-        let step = self.number(2)?;
-        if step <= NARROW_END {
+        let (bytes, most) = if wide { (2, NARROW_END) } else { (1, 0) };
+        let step = self.number(bytes)?;
+        if step <= most {
             return None;
         }
         Some(step as u16)
     }
 
     // The size, by a signed difference.
+    #[tactic(auto, unfolding(delta_layout::specs::Parsing::size_in))]
     fn size(&mut self, present: bool, was: u8) -> Option<u8>
         ensures { Took (size_in present was) result self.old self.new }
     {
@@ -92,6 +86,7 @@ impl Reader<'_> {
     }
 
     // The saved slots: a byte with a bit for each that differs, then these.
+    #[tactic(auto, unfolding(delta_layout::specs::Parsing::saved_in, delta_layout::specs::Parsing::slots_in))]
     fn saved(&mut self, present: bool, was: [u8; 8]) -> Option<[u8; 8]>
         ensures { Took (saved_in present was) result self.old self.new }
     {
@@ -103,22 +98,31 @@ impl Reader<'_> {
             return None;
         }
         let mut saved = was;
-        for k in 0..8 {
-            let slot = self.changed((moved >> k) % 2 == 1, 1, u32::from(saved[k]))?;
-            saved[k] = slot as u8;
+        for (k, slot) in saved.iter_mut().enumerate() {
+            let read = self.changed(has_bit(u32::from(moved), k as u32), 1, u32::from(*slot))?;
+            *slot = read as u8;
         }
         Some(saved)
     }
 
     // The row's fields, by their bits.
+    #[tactic(auto, unfolding(delta_layout::specs::Parsing::row_in))]
     fn row(&mut self, flags: u8, before: &Row) -> Option<Row>
         ensures { Took (row_in flags before.now) result self.old self.new }
     {
-        let size = self.size(has_flag(flags, SIZE), before.size)?;
-        let slots = self.changed(has_flag(flags, SLOTS), 4, before.slots)?;
-        let registers = self.changed(has_flag(flags, REGISTERS), 2, u32::from(before.registers))?;
-        let untouched = self.changed(has_flag(flags, UNTOUCHED), 1, u32::from(before.untouched))?;
-        let saved = self.saved(has_flag(flags, SAVED), before.saved)?;
+        let size = self.size(has_flag(flags, Field::Size), before.size)?;
+        let slots = self.changed(has_flag(flags, Field::Slots), 4, before.slots)?;
+        let registers = self.changed(
+            has_flag(flags, Field::Registers),
+            2,
+            u32::from(before.registers),
+        )?;
+        let untouched = self.changed(
+            has_flag(flags, Field::Untouched),
+            1,
+            u32::from(before.untouched),
+        )?;
+        let saved = self.saved(has_flag(flags, Field::Saved), before.saved)?;
         Some(Row {
             size,
             slots,
@@ -129,6 +133,7 @@ impl Reader<'_> {
     }
 
     // A row with its point, whether the row is lawful or not.
+    #[tactic(auto, unfolding(delta_layout::specs::Parsing::entry_in, delta_layout::specs::Parsing::fields_in))]
     fn entry(&mut self, before: &Entry) -> Option<Entry>
         ensures { Took (entry_in before.now) result self.old self.new }
     {
@@ -136,7 +141,7 @@ impl Reader<'_> {
         if flags >= FLAGS_END {
             return None;
         }
-        let step = self.step(has_flag(flags, WIDE))?;
+        let step = self.step(has_flag(flags, Field::Wide))?;
         let point = before.point.checked_add(step)?;
         let row = self.row(flags, &before.row)?;
         Some(Entry { point, row })
@@ -157,12 +162,9 @@ impl Reader<'_> {
         ensures { MatchResult result (GotRow before.now self.old self.new) (NoRow before.now self.old self.new) }
     {
         let start = self.at;
-        let Some(entry) = self.entry(before) else {
-            return Err(self.fault(start));
-        };
-        if !entry.row.is_lawful() {
-            return Err(self.fault(start));
+        match self.entry(before) {
+            Some(entry) if entry.row.is_lawful() => Ok(entry),
+            _ => Err(self.fault(start)),
         }
-        Ok(entry)
     }
 }

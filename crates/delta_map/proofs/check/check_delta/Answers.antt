@@ -1,7 +1,6 @@
 use Rattle.std.proofs.Common.{◌≡◌, ℕ, sym, subst, inl, inr, add-one, arith}
 use Rattle.std.proofs.lemmas.Result.{err_from_is_err_and}
 use Rattle.delta_image.specs.Images.{start_in, GoodFront}
-use Rattle.delta_image.proofs.Coded.{coding}
 use Rattle.delta_image.proofs.Exact.{bad_start_means, bad_row_means}
 use Rattle.delta_image.proofs.Fronts.{front_none, front_table, front_length}
 use Rattle.delta_image.proofs.Merging.{merged}
@@ -16,7 +15,7 @@ returns-in_err-check_starts c =
       byte = c.in_err-check_starts.field-0.0.byte;
       tells = p.2;
       first = inl f;
-      none = bad_start_means coding c.args.image.now f.index f.bad;
+      none = bad_start_means c.args.image.now f.index f.bad;
     })
 
 pub loop-place-init : goal.loop-place-init
@@ -31,7 +30,7 @@ returns-in_err-rows c =
       byte = c.in_err-rows.field-0.0.byte;
       tells = p.2;
       first = inr f;
-      none = bad_row_means coding c.args.image.now c.in_err-rows.field-0.0.row c.in_err-rows.field-0.0.byte f;
+      none = bad_row_means c.args.image.now c.in_err-rows.field-0.0.row c.in_err-rows.field-0.0.byte f;
     })
 
 pub loop-place-preserved : goal.loop-place-preserved

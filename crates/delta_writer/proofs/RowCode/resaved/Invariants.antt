@@ -1,7 +1,8 @@
+use Rattle.std.proofs.Common.{length}
 use Rattle.delta_layout.specs.Codes.{moved_slots}
 use Rattle.delta_writer.specs.Writing.{Added}
 use Rattle.delta_writer.proofs.RowCode.resaved.Given as goal
 
--- the slots of the registers below r(8 + k) are written
-abbrev pub invariant-loop-k : goal.invariant-loop-k
-invariant-loop-k l = Added (moved_slots l.was l.saved l.k) l.initial.self l.self
+-- the slots of the first registers are written
+abbrev pub invariant-loop-old : goal.invariant-loop-old
+invariant-loop-old l = Added (moved_slots l.was l.saved (length l.yielded)) l.initial.self l.self

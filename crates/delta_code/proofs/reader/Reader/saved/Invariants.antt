@@ -5,4 +5,4 @@ use Rattle.delta_code.proofs.reader.Reader.saved.Given as goal
 
 -- the slots of the registers below r(8 + k) are read
 abbrev pub invariant-loop-k : goal.invariant-loop-k
-invariant-loop-k l = Took (slots_in l.moved l.initial.saved l.k) (Some l.saved) l.initial.self l.self
+invariant-loop-k l = Took (slots_in l.moved l.initial.slot-items l.k) (Some l.slot-items) l.initial.self l.self
