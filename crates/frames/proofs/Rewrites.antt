@@ -20,7 +20,6 @@ use Rattle.frames.proofs.LayoutLaws.{length-layout, layout-cons}
 pub record SameButHandlers (st ts : State) : Type 0 where
   pub phase_same : ts.phase ≡ st.phase
   pub spacing_same : ts.spacing ≡ st.spacing
-  pub depth_same : ts.depth ≡ st.depth
   pub edges_same : ts.edges ≡ st.edges
   pub registers_same : ts.registers ≡ st.registers
   pub level_same : ts.level ≡ st.level
@@ -45,8 +44,8 @@ handlers_stand rows ws st ts s hs h same are inside ordered = record {
   lies = record {
     laid = h.lies.laid;
     fits = h.lies.fits;
-    deep = same.depth_same ∙ h.lies.deep;
-    edged = λ xs fs e. ap (λ q. get_or q (length fs) 0) same.edges_same ∙ h.lies.edged xs fs e;
+    deep = ap (λ e. length e.items - 1) same.edges_same ∙ h.lies.deep;
+    edged = λ xs fs e. ap (λ q. get_or q.items (length fs) 0) same.edges_same ∙ h.lies.edged xs fs e;
   };
   handled = record { handlers_are = are; inside = inside; ordered = ordered };
   marked = record {
@@ -92,7 +91,6 @@ with_words s f fs rs = record {
 pub record SameButRegisters (st ts : State) : Type 0 where
   pub phase_same : ts.phase ≡ st.phase
   pub spacing_same : ts.spacing ≡ st.spacing
-  pub depth_same : ts.depth ≡ st.depth
   pub edges_same : ts.edges ≡ st.edges
   pub handlers_same : ts.handlers ≡ st.handlers
   pub level_same : ts.level ≡ st.level
@@ -132,11 +130,11 @@ module _ (rows : Rows) (ws vs : List ℕ) (st ts : State) (s : Model) (g : Frame
               let n : length vs ≡ length fs = alike_length vs fs a.2.2 in
               ap (λ k. get_or (records st.records) k no_record) (sym n) ∙ h.recorded.known us vs u v e' (omega arith) ∙ record_as rows u.back f.back v e vs fs a.0 a.2
 
-  edges : (xs fs : List Frame) → g ∷ gs ≡ xs ++ fs → get_or ts.edges (length fs) 0 ≡ top fs
+  edges : (xs fs : List Frame) → g ∷ gs ≡ xs ++ fs → get_or ts.edges.items (length fs) 0 ≡ top fs
   edges xs fs e =
       let part = alike_part (frames s) (g ∷ gs) xs fs alike e in
-      ap (λ q. get_or q (length fs) 0) same.edges_same
-      ∙ ap (λ k. get_or st.edges k 0) (sym (alike_length part.1 fs part.3))
+      ap (λ q. get_or q.items (length fs) 0) same.edges_same
+      ∙ ap (λ k. get_or st.edges.items k 0) (sym (alike_length part.1 fs part.3))
       ∙ h.lies.edged part.0 part.1 part.2
       ∙ alike_top part.1 fs part.3
 
@@ -157,7 +155,7 @@ module _ (rows : Rows) (ws vs : List ℕ) (st ts : State) (s : Model) (g : Frame
     lies = record {
       laid = laid;
       fits = let l = h.lies.fits in let t = same_top in omega arith;
-      deep = same.depth_same ∙ h.lies.deep ∙ alike_length (frames s) (g ∷ gs) alike;
+      deep = ap (λ e. length e.items - 1) same.edges_same ∙ h.lies.deep ∙ alike_length (frames s) (g ∷ gs) alike;
       edged = edges;
     };
     handled = record {
@@ -211,7 +209,7 @@ module _ (rows : Rows) (ws : List ℕ) (st : State) (s : Model) (i w : ℕ) (h :
   pub slot_stands : Stands rows (set ws (top s.older + i) w) st (with_slot s i w)
   slot_stands =
       words_stand rows ws (set ws (top s.older + i) w) st st s (with_slot s i w).current s.older s.registers h
-      (record { phase_same = refl; spacing_same = refl; depth_same = refl; edges_same = refl; handlers_same = refl; level_same = refl; markers_same = refl; records_same = refl })
+      (record { phase_same = refl; spacing_same = refl; edges_same = refl; handlers_same = refl; level_same = refl; markers_same = refl; records_same = refl })
       (refl, sym (length-set s.current.slots (i - 1) w), alike_same s.older)
       (length-set ws (top s.older + i) w) slot_laid h.placed.registers_are
 
