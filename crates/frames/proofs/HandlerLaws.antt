@@ -1,5 +1,5 @@
 -- Laws of handlers: the newest tells whether the running frame has one, and handlers of older frames come first.
-use Rattle.std.proofs.Common.{◌≡◌, ℕ, suc, ◌+◌, ◌-◌, ◌<◌, ◌≤◌, true, false, Some, None, Option, MatchOption, List, [], ◌∷◌, ◌++◌, length, get_or, take, sym, refl, ap, ◌∙◌, subst, ⊎_elim, arith}
+use Rattle.std.proofs.Common.{◌≡◌, ℕ, suc, ◌+◌, ◌-◌, ◌<◌, ◌≤◌, true, false, List, [], ◌∷◌, ◌++◌, length, get_or, take, sym, refl, ap, ◌∙◌, subst, ⊎_elim, arith}
 use Rattle.std.proofs.lemmas.List.{length_push, length-take-le, get_or_at, get_or-take, get_or_push, get_or_append_left, take_at, take_all}
 use Rattle.std.proofs.lemmas.Bool.{cases_eq, cases_lt}
 use Rattle.frames.specs.Tables.{Newest}
@@ -10,7 +10,7 @@ use Rattle.frames.specs.Falling.{NewestOf}
 use Rattle.frames.specs.Standing.{Handled, no_handler}
 use Rattle.frames.specs.declared.records.Handler.{Handler}
 use Rattle.frames.specs.declared.state.State.{State}
-use Rattle.frames.proofs.TableLaws.{newest_of, none_newest}
+use Rattle.frames.proofs.TableLaws.{newest_of}
 
 -- the newest of the model's handlers
 pub newest_is : (hs ys : List Handler) (x : Handler) → Newest hs x ys → (get_or hs (length hs - 1) no_handler ≡ x) × (take (length hs - 1) hs ≡ ys) × (length hs ≡ suc (length ys))
@@ -38,11 +38,6 @@ handler_none st s h none (k, l, e) =
     let under = h.inside last (omega arith) in
     let over : (get_or s.handlers k no_handler).frame ≤ (get_or s.handlers last no_handler).frame = ⊎_elim (λ (same : k ≡ last). subst (λ q. (get_or s.handlers k no_handler).frame ≤ (get_or s.handlers q no_handler).frame) same (omega arith)) (λ (other : k ≡ last → ⊥). h.ordered k last (omega arith) (omega arith)) (cases_eq k last) in
     none (take last s.handlers) (get_or s.handlers last no_handler) (last_split s.handlers (omega arith)) (omega arith)
-
--- a handler that is there is taken away
-pub popped_there : (hs ks : List Handler) (o : Option Handler) (i : ℕ) → NewestOf hs i true → MatchOption o ((hs ≡ []) × (ks ≡ [])) (λ x. Newest hs x ks) → (x : Handler) × Newest hs x ks
-popped_there hs ks None i (ys, y, n, e) none = absurd (none_newest ys y (subst (λ q. Newest q y ys) none.0 n))
-popped_there hs ks (Some x) i there n = (x, n)
 
 pub no_handlers : (s : Model) (i : ℕ) → s.handlers ≡ [] → HandlerOf s i → ⊥
 no_handlers s i none (k, l, e) = let z : length s.handlers ≡ 0 = ap length none in omega arith

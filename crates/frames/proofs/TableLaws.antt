@@ -1,5 +1,5 @@
 -- Laws of tables of records, over the list of a table's items and the number of its records.
-use Rattle.std.proofs.Common.{◌≡◌, ℕ, ◌+◌, ◌-◌, ◌<◌, ◌≤◌, List, [], ◌∷◌, ◌++◌, length, get_or, take, Ok, Err, Result, MatchResult, sym, refl, ap, ◌∙◌, subst, ⊎_elim, arith}
+use Rattle.std.proofs.Common.{◌≡◌, ℕ, zero, suc, ◌+◌, ◌-◌, ◌<◌, ◌≤◌, List, [], ◌∷◌, ◌++◌, length, get_or, take, Some, None, Option, MatchOption, append_assoc, Ok, Err, Result, MatchResult, sym, refl, ap, ◌∙◌, subst, ⊎_elim, arith}
 use Rattle.std.proofs.lemmas.List.{take_more, take_all, length-append, append-nil, same_from_push, get_or_append_left, get_or-append-add, nil_from_length}
 use Rattle.std.proofs.lemmas.Bool.{cases_lt}
 use Rattle.arrayvec.specs.CapacityError.{error_element}
@@ -17,6 +17,19 @@ pub record Dropping {R : Type 0} (frame : R → ℕ) (h : ℕ) (before after : L
   pub dropped : List R
   pub parts : before ≡ after ++ dropped
   pub above : (k : ℕ) (d : R) → k < length dropped → h < frame (get_or dropped k d)
+
+-- one more is dropped
+pub dropping_more : {R : Type 0} (frame : R → ℕ) (h : ℕ) (xs ys zs : List R) (x : R) → Dropping frame h xs ys → Newest ys x zs → h < frame x → Dropping frame h xs zs
+dropping_more {R} frame h xs ys zs x s new high =
+    record {
+      dropped = x ∷ s.dropped;
+      parts = s.parts ∙ ap (λ q. q ++ s.dropped) new ∙ append_assoc zs (x ∷ []) s.dropped;
+      above = λ k d l. each k d l;
+    }
+  where
+    each : (k : ℕ) (d : R) → k < length (x ∷ s.dropped) → h < frame (get_or (x ∷ s.dropped) k d)
+    each zero d l = high
+    each (suc k) d l = s.above k d (omega arith)
 
 -- there is one newest record at most
 pub newest_same : {R : Type 0} (xs ys zs : List R) (x z : R) → Newest xs x ys → Newest xs z zs → x ≡ z
@@ -77,3 +90,8 @@ pub pushed : {R : Type 0} (n : ℕ) (xs ys : List R) (x : R) (r : Result (Unit {
     MatchResult r (λ _. ys ≡ xs ++ x ∷ []) (λ e. (error_element e ≡ x) × (length xs ≡ n) × (ys ≡ xs)) → ys ≡ xs ++ x ∷ []
 pushed n xs ys x (Ok done) l h = h
 pushed n xs ys x (Err e) l h = let full = h.1 in absurd (omega arith)
+
+-- the newest record is popped
+pub popped : {R : Type 0} (xs ys zs : List R) (x : R) (o : Option R) → Newest xs x zs → MatchOption o ((xs ≡ []) × (ys ≡ [])) (λ z. Newest xs z ys) → Newest xs x ys
+popped xs ys zs x None n none = absurd (none_newest zs x (subst (λ q. Newest q x zs) none.0 n))
+popped xs ys zs x (Some z) n m = subst (λ q. Newest xs q ys) (newest_same xs ys zs z x m n) m

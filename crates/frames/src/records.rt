@@ -23,6 +23,7 @@ pub struct Record {
     pub held: u8,
 }
 
+// Each record says where its frame's number is: the types share no more than that field, and one type for all would take apart what each is.
 impl Framed for Handler {
     ghost frame = { λ r. r.frame };
 

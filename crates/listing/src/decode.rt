@@ -1,4 +1,5 @@
 // Decoding the frames of a stack, from a given one up to the running one.
+// The map, the memory and the state stay parameters: a struct with a `&mut` to two of them would have each method promise, beside what it does, that both still lead to the same place.
 ghost use Rattle.frames.specs.Views.{seen};
 ghost use Rattle.listing.specs.Decoding.{ScannedFrame, DecodedFrame, HeldAt, DecodedWaiting, Decoded};
 

@@ -1,4 +1,4 @@
-// A machine over a frame map and a stack memory.
+// A machine over a frame map and a stack memory. Clauses see it by `view_of`: no `impl Model` can, since a Value has a code, and what a map's rows mean is a function, which has none.
 ghost use Rattle.std.specs.Prelude.{◌≡◌, MatchResult, ◌≢◌};
 ghost use Rattle.frames.specs.declared.state.Phase.TheVariants.{Running};
 ghost use Rattle.refusal.specs.declared.Refusal.TheVariants.{WrongPhase};

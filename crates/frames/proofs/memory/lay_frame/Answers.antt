@@ -1,11 +1,6 @@
 use Rattle.std.proofs.Common.{◌≡◌, ◌+◌, ◌-◌, ◌<◌, length, set, sym, ap, ◌∙◌, arith}
-use Rattle.frames.proofs.MemoryLaws.{zeroed, zeroed_none, zeroed_more, zeroed_first, length_zeroed, written}
+use Rattle.frames.proofs.MemoryLaws.{zeroed, zeroed_more, zeroed_first, length_zeroed, written}
 use Rattle.frames.proofs.memory.lay_frame.Goals as goal
-
-pub loop-place-init : goal.loop-place-init
-loop-place-init g c = λ l.
-    let none : c.from-start.result - c.from-start.result ≡ 0 = omega arith in
-    rw none (zeroed_none (g.S.StackMemory.words c.args.memory.now) c.from-start.result)
 
 pub loop-place-preserved : goal.loop-place-preserved
 loop-place-preserved g c = λ l.

@@ -5,7 +5,8 @@ use Rattle.frames.specs.Falling.{NewestOf}
 use Rattle.frames.specs.Models.{newest}
 use Rattle.frames.specs.Tables.{records}
 use Rattle.frames.proofs.CallLaws.{untry_accepted}
-use Rattle.frames.proofs.HandlerLaws.{handler_there, handler_none, popped_there}
+use Rattle.frames.proofs.HandlerLaws.{handler_there, handler_none}
+use Rattle.frames.proofs.TableLaws.{popped}
 use Rattle.frames.proofs.ViewLaws.{runs, stays, stopped}
 use Rattle.machine.proofs.machine.Machine.untry.Goals as goal
 
@@ -24,5 +25,5 @@ returns g c = λ s h.
     let deep = h.lies.deep in
     let at : c.newest.result ≡ newest s = omega (arith, c.newest.ensures) in
     let told : NewestOf s.handlers (newest s) true = subst (λ q. NewestOf q (newest s) true) h.handled.handlers_are (subst (λ k. NewestOf (records c.args.self.now.state.handlers) k true) at c.if-not-has_handler.ensures) in
-    let popped = popped_there _ _ c.pop.result _ c.if-not-has_handler.ensures c.pop.ensures in
-    (untry_accepted _ _ s popped.0 h c.in_ok-running.ensures (handler_there s (newest s) told) (record { phase_same = refl; spacing_same = refl; edges_same = refl; registers_same = refl; level_same = refl; markers_same = refl; records_same = refl }) popped.1, tt)
+    let there = c.if-not-has_handler.ensures in
+    (untry_accepted _ _ s there.1 h c.in_ok-running.ensures (handler_there s (newest s) told) (record { phase_same = refl; spacing_same = refl; edges_same = refl; registers_same = refl; level_same = refl; markers_same = refl; records_same = refl }) (popped _ _ there.0 there.1 c.pop.result there.2 c.pop.ensures), tt)
