@@ -1,5 +1,5 @@
 -- What calls share: phases, tops, refusals that change nothing, and one lookup.
-use Rattle.std.proofs.Common.{◌≡◌, ℕ, suc, ◌+◌, ◌-◌, ◌%◌, ◌^◌, ◌<◌, List, [], ◌∷◌, length, get_or, Some, None, Option, sym, refl, ap, ◌∙◌, subst, inl, inr, arith}
+use Rattle.std.proofs.Common.{◌≡◌, ℕ, suc, ◌+◌, ◌-◌, ◌%◌, ◌^◌, ◌<◌, List, [], ◌∷◌, length, get_or, Some, None, Option, Ok, Err, Result, MatchResult, IsErrAnd, sym, refl, ap, ◌∙◌, subst, inl, inr, arith}
 use Rattle.frame_map.specs.Maps.{Rows}
 use Rattle.frame_map.specs.declared.row.Row.{Row}
 use Rattle.refusal.specs.Numbers.{number_of}
@@ -77,9 +77,17 @@ stays v s why e h free first = record { first = first; stands = h; counted = sym
 pub stays_as : (v : View) (s : Model) (why : List Reason) (e d : Refusal) → StandsFor v s → e ≡ d → cost (number_of d) ≡ 0 → First why (number_of d) → Refused v v why s e
 stays_as v s why e d h same free first = subst (λ q. Refused v v why s q) (sym same) (stays v s why d h free first)
 
--- the first of all refusals
-pub stopped : (v : View) (s : Model) (rest : List Reason) (e : Refusal) → StandsFor v s → (e ≡ WrongPhase) × (v.state.phase ≡ Running → ⊥) → Refused v v (because 1 (NotRunning s) ∷ rest) s e
-stopped v s rest e h told = stays_as v s (because 1 (NotRunning s) ∷ rest) e WrongPhase h told.0 refl (inl (refl, not_running v.rows v.words v.state s h told.1))
+-- a refusal that is handed on
+pub handed : {A : Type 0} (P : A → Type 0) (Q : Refusal → Type 0) (r : Result A Refusal) (e : Refusal) → IsErrAnd r (λ d. d ≡ e) → Q e → MatchResult r P Q
+handed P Q (Ok x) e told q = absurd told
+handed P Q (Err d) e told q = subst Q (sym told) q
+
+-- the script does not run
+pub stopped : {A : Type 0} (P : A → Type 0) (r : Result A Refusal) (v : View) (s : Model) (rest : List Reason) (e : Refusal) → StandsFor v s → IsErrAnd r (λ d. d ≡ e) → (e ≡ WrongPhase) × (v.state.phase ≡ Running → ⊥) →
+    MatchResult r P (λ d. Refused v v (because 1 (NotRunning s) ∷ rest) s d)
+stopped P r v s rest e h told why =
+    handed P (λ d. Refused v v (because 1 (NotRunning s) ∷ rest) s d) r e told
+    (stays_as v s (because 1 (NotRunning s) ∷ rest) e WrongPhase h why.0 refl (inl (refl, not_running v.rows v.words v.state s h why.1)))
 
 -- a refusal that has cost a lookup
 pub stays_asked : (v : View) (rows : Rows) (count : ℕ) (s : Model) (why : List Reason) (e : Refusal) → StandsFor v s → rows ≡ v.rows → count ≡ (v.count + 1) % 2 ^ 32 → cost (number_of e) ≡ 1 → First why (number_of e) →

@@ -1,24 +1,22 @@
-use Rattle.std.proofs.Common.{◌≡◌, ◌+◌, ◌<◌, ◌≤◌, ◌⊎◌, sym, [], ◌∷◌, ◌++◌, length, refl, ap, ◌∙◌, inl, inr, ⊎_elim, arith}
+use Rattle.std.proofs.Common.{◌≡◌, ◌+◌, ◌<◌, ◌≤◌, ◌⊎◌, sym, [], ◌∷◌, ◌++◌, length, refl, ap, ◌∙◌, inl, inr, ⊎_elim, arith, rules}
 use Rattle.std.proofs.lemmas.Bool.{eqb-true, eqb-false}
-use Rattle.std.proofs.lemmas.Result.{err_from_is_err_and}
 use Rattle.scan.specs.Frames.{top}
 use Rattle.frames.specs.Models.{frames}
 use Rattle.refusal.specs.declared.Refusal.TheVariants.{OutOfRange, NoRoom}
-use Rattle.frames.proofs.ViewLaws.{runs, top_is, size_is, stays, stays_as, stays_asked, stopped, unfit}
+use Rattle.frames.proofs.ViewLaws.{handed, runs, top_is, size_is, stays, stays_as, stays_asked, stopped, unfit}
 use Rattle.frames.proofs.Entering.{laid_at, enter_accepted}
 use Rattle.machine.proofs.machine.Machine.enter.Goals as goal
 use Rattle.machine.proofs.machine.Machine.enter.Goals.{then-is_full-via-then-is_full, then-is_full-via-else-is_full+then-end-len}
 
 pub returns-in_err-running : goal.returns-in_err-running
-returns-in_err-running g c = λ s h. let p = err_from_is_err_and c.from_residual.result c.from_residual.ensures.1 in rw (p.1, p.2) (stopped _ s _ _ h c.in_err-running.ensures)
+returns-in_err-running g c = λ s h. stopped _ _ _ s _ _ h c.from_residual.ensures.1 c.in_err-running.ensures
 
 pub returns-in_err-size : goal.returns-in_err-size
 returns-in_err-size g c = λ s h.
     let unfair = rw c.in_err-size.ensures.ok_part at c.frame_size.ensures in
     let told = rw c.in_err-size.ensures.ok_part at c.in_err-size.ensures.value in
     let why : c.in_err-size.field-0.0 ≡ OutOfRange = cc in
-    let p = err_from_is_err_and c.from_residual-in_err-size.result c.from_residual-in_err-size.ensures.1 in
-    rw (p.1, p.2) (stays_as _ s _ _ OutOfRange h why refl (inr (runs _ _ _ s h c.in_ok-running.ensures, inl (refl, unfair))))
+    handed _ _ _ _ c.from_residual-in_err-size.ensures.1 (stays_as _ s _ _ OutOfRange h why refl (inr (runs _ _ _ s h c.in_ok-running.ensures, inl (refl, unfair))))
 
 pub returns-then-is_full : goal.returns-then-is_full
 returns-then-is_full g c = λ s h.
@@ -37,8 +35,7 @@ returns-in_err-fitting_row g c = λ s h.
     let same : c.in_ok-size.size ≡ c.args.size = fair.0 in
     let room = eqb-false _ 257 (sym c.is_full.ensures.value ∙ c.if-is_full.false) in
     let why = unfit _ _ _ s c.args.point c.size.result h (c.size.ensures ∙ size_is _ _ _ s h) c.in_err-fitting_row.field-0.0 c.in_err-fitting_row.ensures.found in
-    let p = err_from_is_err_and c.from_residual-in_err-fitting_row.result c.from_residual-in_err-fitting_row.ensures.1 in
-    rw (p.1, p.2)
+    handed _ _ _ _ c.from_residual-in_err-fitting_row.ensures.1
     (stays_asked _ _ _ s _ _ h c.fitting_row.ensures.same c.fitting_row.ensures.counted why.1
     (inr (
       runs _ _ _ s h c.in_ok-running.ensures,
@@ -64,7 +61,7 @@ returns g c = λ s h.
       enter_accepted _ _ _ _ _ s c.args.point c.args.size c.size.result _ h c.in_ok-running.ensures some fair.1.1 (omega (arith, c.args.self.now.state.deep)) fits
           (c.size.ensures ∙ size_is _ _ _ s h) c.in_ok-fitting_row.ensures.found c.fitting_row.ensures.same c.fitting_row.ensures.counted
           (c.lay_frame.ensures (omega arith) (omega arith) ∙ ap (λ t. laid_at ws t c.args.point c.in_ok-size.size) place ∙ ap (λ k. laid_at ws (top (frames s)) c.args.point k) same)
-          (record { phase_same = refl; spacing_same = refl; registers_same = refl; handlers_same = refl; level_same = refl; markers_same = refl; records_same = refl })
+          (search rules)
           (c.push.ensures.items ∙ ap (λ k. c.args.self.now.state.edges.items ++ k ∷ []) end),
       tt,
     )

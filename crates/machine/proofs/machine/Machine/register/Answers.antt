@@ -1,16 +1,15 @@
 use Rattle.std.proofs.Common.{get_or, refl, ap, ◌∙◌, inl, inr}
-use Rattle.std.proofs.lemmas.Result.{err_from_is_err_and}
 use Rattle.refusal.specs.declared.Refusal.TheVariants.{OutOfRange}
 use Rattle.frames.proofs.CallLaws.{register_read}
-use Rattle.frames.proofs.ViewLaws.{runs, stopped, stays_as}
+use Rattle.frames.proofs.ViewLaws.{runs, stopped, stays_as, handed}
 use Rattle.machine.proofs.machine.Machine.register.Goals as goal
 
 pub returns-in_err-running : goal.returns-in_err-running
-returns-in_err-running g c = λ s h. let p = err_from_is_err_and c.from_residual.result c.from_residual.ensures.1 in rw (p.1, p.2) (stopped _ s _ _ h c.in_err-running.ensures)
+returns-in_err-running g c = λ s h. stopped _ _ _ s _ _ h c.from_residual.ensures.1 c.in_err-running.ensures
 
 pub returns-in_err-place : goal.returns-in_err-place
 returns-in_err-place g c = λ s h.
-    let p = err_from_is_err_and c.from_residual-in_err-place.result c.from_residual-in_err-place.ensures.1 in rw (p.1, p.2)
+    handed _ _ _ _ c.from_residual-in_err-place.ensures.1
     (stays_as _ s _ _ OutOfRange h c.in_err-place.ensures.0 refl (inr (runs _ _ _ s h c.in_ok-running.ensures, inl (refl, c.in_err-place.ensures.1))))
 
 pub returns : goal.returns

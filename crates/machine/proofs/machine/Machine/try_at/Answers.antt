@@ -1,15 +1,14 @@
-use Rattle.std.proofs.Common.{◌≡◌, length, refl, ap, ◌∙◌, inl, inr, arith}
-use Rattle.std.proofs.lemmas.Result.{err_from_is_err_and}
+use Rattle.std.proofs.Common.{◌≡◌, length, refl, ap, ◌∙◌, inl, inr, arith, rules}
 use Rattle.refusal.specs.declared.Refusal.TheVariants.{NoRoom}
 use Rattle.frames.specs.Models.{newest}
 use Rattle.frames.specs.Tables.{records}
 use Rattle.frames.proofs.CallLaws.{try_accepted}
 use Rattle.frames.proofs.TableLaws.{pushed}
-use Rattle.frames.proofs.ViewLaws.{runs, size_is, stays, stays_asked, stopped, unfit}
+use Rattle.frames.proofs.ViewLaws.{handed, runs, size_is, stays, stays_asked, stopped, unfit}
 use Rattle.machine.proofs.machine.Machine.try_at.Goals as goal
 
 pub returns-in_err-running : goal.returns-in_err-running
-returns-in_err-running g c = λ s h. let p = err_from_is_err_and c.from_residual.result c.from_residual.ensures.1 in rw (p.1, p.2) (stopped _ s _ _ h c.in_err-running.ensures)
+returns-in_err-running g c = λ s h. stopped _ _ _ s _ _ h c.from_residual.ensures.1 c.in_err-running.ensures
 
 pub returns-then-len-ge-MAX_HANDLERS : goal.returns-then-len-ge-MAX_HANDLERS
 returns-then-len-ge-MAX_HANDLERS g c = λ s h.
@@ -20,8 +19,7 @@ pub returns-in_err-fitting_row : goal.returns-in_err-fitting_row
 returns-in_err-fitting_row g c = λ s h.
     let same = ap length h.handled.handlers_are in
     let why = unfit _ _ _ s c.args.point c.size.result h (c.size.ensures ∙ size_is _ _ _ s h) c.in_err-fitting_row.field-0.0 c.in_err-fitting_row.ensures.found in
-    let p = err_from_is_err_and c.from_residual-in_err-fitting_row.result c.from_residual-in_err-fitting_row.ensures.1 in
-    rw (p.1, p.2)
+    handed _ _ _ _ c.from_residual-in_err-fitting_row.ensures.1
     (stays_asked _ _ _ s _ _ h c.fitting_row.ensures.same c.fitting_row.ensures.counted why.1
     (inr (runs _ _ _ s h c.in_ok-running.ensures, inr (λ full. omega (arith, c.len.ensures), why.0))))
 
@@ -32,7 +30,7 @@ returns g c = λ s h.
     let at : c.newest-frame.result ≡ newest s = omega (arith, c.newest-frame.ensures) in (
       try_accepted _ _ _ _ s c.args.point c.size.result _ (record { frame = c.newest-frame.result; point = c.args.point }) h c.in_ok-running.ensures (omega (arith, c.len.ensures))
           (c.size.ensures ∙ size_is _ _ _ s h) c.in_ok-fitting_row.ensures.found c.fitting_row.ensures.same c.fitting_row.ensures.counted
-          (record { phase_same = refl; spacing_same = refl; edges_same = refl; registers_same = refl; level_same = refl; markers_same = refl; records_same = refl })
+          (search rules)
           (ap (λ k. record { frame = k; point = c.args.point }) at)
           (pushed 64 (records table) (records c.push.new.self) _ c.push.result (omega (arith, c.len.ensures)) c.push.ensures),
       tt,
