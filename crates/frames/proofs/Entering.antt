@@ -5,6 +5,7 @@ use Rattle.std.proofs.lemmas.Bool.{lt-leb, and_right}
 use Rattle.frame_map.specs.Maps.{Rows}
 use Rattle.frame_map.specs.declared.row.Row.{Row}
 use Rattle.scan.specs.Frames.{Frame, size, top}
+use Rattle.scan.proofs.StackLaws.{top-cons}
 use Rattle.frames.specs.Tables.{records, depth}
 use Rattle.frames.specs.Models.{Model, frames}
 use Rattle.frames.specs.Layouts.{marked, marker, frame_words, layout}
@@ -15,7 +16,7 @@ use Rattle.frames.specs.Views.{View, view, StandsFor, Accepted}
 use Rattle.frames.specs.declared.state.Phase.TheVariants.{Running}
 use Rattle.frames.specs.declared.state.State.{State}
 use Rattle.frames.proofs.ViewLaws.{runs, after_one, fit_clear, fit_describes}
-use Rattle.frames.proofs.LayoutLaws.{top-cons, layout-cons}
+use Rattle.frames.proofs.LayoutLaws.{layout-cons}
 use Rattle.frames.proofs.StackLaws.{split_cons, waiting-cons}
 
 -- all but the frames is as it was

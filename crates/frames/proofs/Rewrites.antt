@@ -1,6 +1,7 @@
 -- Other handlers, other registers, other words in slots: the machine stands for the model with them.
 use Rattle.std.proofs.Common.{◌≡◌, ℕ, zero, suc, ◌+◌, ◌-◌, ◌*◌, ◌<◌, ◌≤◌, cond, List, [], ◌∷◌, ◌++◌, length, get_or, take, drop, set, Some, None, Option, sym, refl, ap, ◌∙◌, subst, arith}
 use Rattle.std.proofs.lemmas.List.{length-set, set-append_right, drop-set-lt}
+use Rattle.std.proofs.Math.Seq.{take-set-lt}
 use Rattle.frame_map.specs.Maps.{Rows}
 use Rattle.frame_map.specs.declared.row.Row.{Row}
 use Rattle.scan.specs.Frames.{Frame, size, top}
@@ -175,13 +176,6 @@ module _ (rows : Rows) (ws vs : List ℕ) (st ts : State) (s : Model) (g : Frame
     waiting = alike_waiting rows (frames s) (g ∷ gs) alike h.waiting;
   }
 
--- the start of a list in which an item was set
-pub take-set_in : {X : Type 0} (n : ℕ) (xs : List X) (i : ℕ) (v : X) → take n (set xs i v) ≡ set (take n xs) i v
-take-set_in zero xs i v = refl
-take-set_in (suc n) [] i v = refl
-take-set_in (suc n) (x ∷ xs) zero v = refl
-take-set_in (suc n) (x ∷ xs) (suc i) v = ap (λ q. x ∷ q) (take-set_in n xs i v)
-
 set_behind : (x : ℕ) (xs : List ℕ) (i v : ℕ) → 1 ≤ i → set (x ∷ xs) i v ≡ x ∷ set xs (i - 1) v
 set_behind x xs zero v l = absurd (omega arith)
 set_behind x xs (suc i) v l = ap (λ k. x ∷ set xs k v) (let e : i ≡ suc i - 1 = omega arith in e)
@@ -199,7 +193,7 @@ module _ (rows : Rows) (ws : List ℕ) (st : State) (s : Model) (i w : ℕ) (h :
       let u = s.level in
       let first = cond (marked m u (length s.older)) (marker m (length s.older)) s.current.back in
       ap (λ k. take k (set ws (top s.older + i) w)) changed_top
-      ∙ take-set_in (top (frames s)) ws (top s.older + i) w
+      ∙ take-set-lt (top (frames s)) ws (top s.older + i) w (let t = tops in omega arith)
       ∙ ap (λ q. set q (top s.older + i) w) (h.lies.laid ∙ layout-cons m u s.current s.older)
       ∙ set-append_right (layout m u s.older) (first ∷ s.current.slots) (top s.older) (top s.older + i) w (length-layout m u s.older) (omega arith)
       ∙ ap (λ k. layout m u s.older ++ set (first ∷ s.current.slots) k w) (let e : top s.older + i - top s.older ≡ i = omega arith in e)

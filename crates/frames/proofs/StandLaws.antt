@@ -7,13 +7,14 @@ use Rattle.frame_map.specs.Maps.{Rows}
 use Rattle.refusal.specs.declared.Refusal.{Refusal}
 use Rattle.stack_memory.specs.Promises.{Found, NoWord}
 use Rattle.scan.specs.Frames.{Frame, size, top}
+use Rattle.scan.proofs.StackLaws.{top-cons}
 use Rattle.frames.specs.Tables.{records, depth}
 use Rattle.frames.specs.Models.{Model, frames}
 use Rattle.frames.specs.Layouts.{marked, marker, layout}
 use Rattle.frames.specs.Standing.{Stands, Kept, Laid, Marked, no_marker}
 use Rattle.frames.specs.declared.records.Marker.{Marker}
 use Rattle.frames.specs.declared.state.State.{State}
-use Rattle.frames.proofs.LayoutLaws.{top-cons, top_part, layout_word}
+use Rattle.frames.proofs.LayoutLaws.{top_part, layout_word}
 
 -- a frame lies below the top
 pub frame_inside : (ws : List ℕ) (st : State) (s : Model) (xs fs : List Frame) (f : Frame) → Laid ws st s → frames s ≡ xs ++ (f ∷ fs) → top fs + size f ≤ top (frames s)

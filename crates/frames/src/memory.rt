@@ -14,6 +14,7 @@ pub fn lay_frame<S: StackMemory>(memory: &mut S, at: u16, size: u8, address: u32
     ensures { 1 ≤ size → at + size ≤ length (S.words memory.old) → S.words memory.new ≡ take at (S.words memory.old) ++ ((address ∷ replicate (size - 1) 0) ++ drop (at + size) (S.words memory.old)) }
 {
     let start = usize::from(at);
+    // A memory takes one word at a time.
     for place in start..start + usize::from(size) {
         let _ = memory.write(place, 0);
     }

@@ -23,7 +23,7 @@ pub struct Record {
     pub held: u8,
 }
 
-// Each record says where its frame's number is: the types share no more than that field, and one type for all would take apart what each is.
+// The three types share this field and nothing else, so each says where its frame's number stands.
 impl Framed for Handler {
     ghost frame = { λ r. r.frame };
 
