@@ -1,5 +1,5 @@
 // What a table of records does.
-ghost use Rattle.std.specs.Prelude.{◌≡◌, ◌<◌, ◌≤◌, List, [], ◌∷◌, ◌++◌, length, take, MatchOption, MatchResult, slice_index_or};
+ghost use Rattle.std.specs.Prelude.{◌≡◌, ◌==◌, ◌<◌, ◌≤◌, List, [], ◌∷◌, ◌++◌, length, take, MatchOption, MatchResult, slice_index_or};
 ghost use Rattle.arrayvec.specs.CapacityError.{error_element};
 ghost use Rattle.frames.specs.Tables.{records, Newest, DroppedAbove};
 
@@ -22,6 +22,14 @@ impl<R: Framed, const N: usize> Table<R, N> {
         ensures { result ≡ length (records self.now) }
     {
         self.items.len()
+    }
+
+    // Whether there is no room for one more.
+    pub fn is_full(&self) -> bool
+        ensures value { result ≡ (length (records self.now) == N) }
+        ensures fits { length (records self.now) ≤ N }
+    {
+        self.items.is_full()
     }
 
     // One record more, or the record back where the table is full.

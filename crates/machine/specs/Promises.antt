@@ -6,7 +6,7 @@ use Rattle.refusal.specs.declared.Refusal.{Refusal}
 use Rattle.refusal.specs.declared.Refusal.TheVariants.{OutOfRange}
 use Rattle.frames.specs.Reasons.{First, start_reasons, enter_reasons, leave_reasons, try_reasons, untry_reasons, raise_reasons, slot_reasons, register_reasons}
 use Rattle.frames.specs.Changes.{started, entered, left, tried, untried, raised, with_slot, with_register, top_handler}
-use Rattle.frames.specs.Views.{View, view, Accepted, Promises}
+use Rattle.frames.specs.Views.{View, seen, Accepted, Promises}
 use Rattle.frames.specs.Tables.{depth}
 use Rattle.frames.specs.declared.records.Handler.{Handler}
 use Rattle.frames.specs.declared.state.State.{State}
@@ -15,7 +15,7 @@ use Rattle.machine.specs.declared.tokens.Pass.{Pass}
 
 -- a machine as its parts are
 abbrev pub view_of : {M S : Type 0} → (M → Rows) → (M → ℕ) → (S → List ℕ) → Machine M S → View
-view_of rows count words m = view (rows m.map) (count m.map) (words m.memory) m.state
+view_of rows count words m = seen rows count words m.map m.memory m.state
 
 -- the place of a slot of the running frame in the memory, where the frame has that slot
 abbrev pub SlotPlace : State → ℕ → Result ℕ Refusal → Type 0

@@ -8,16 +8,13 @@ use frames::{Handler, fitting_row};
 use refusal::Refusal;
 use stack_memory::StackMemory;
 
-// A machine has at most this many handlers.
-const MAX_HANDLERS: usize = 64;
-
 impl<M: FrameMap, S: StackMemory> Machine<M, S> {
     // Adds a handler of the running frame: a raise makes it run on at `point`.
     pub fn try_at(&mut self, _pass: &Pass, point: u32) -> Result<(), Refusal>
         ensures { let view = view_of M.rows M.count S.words in Tries (view self.old) (view self.new) point result }
     {
         self.running()?;
-        if self.state.handlers.len() >= MAX_HANDLERS {
+        if self.state.handlers.is_full() {
             return Err(Refusal::NoRoom);
         }
         fitting_row(&mut self.map, point, self.state.size())?;
