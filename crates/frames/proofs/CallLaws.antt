@@ -7,7 +7,7 @@ use Rattle.refusal.specs.Numbers.{number_of}
 use Rattle.refusal.specs.declared.Refusal.{Refusal}
 use Rattle.scan.specs.Frames.{Frame, size, top}
 use Rattle.scan.proofs.StackLaws.{top-cons}
-use Rattle.frames.specs.Tables.{records, Newest}
+use Rattle.frames.specs.Tables.{records, depth, Newest}
 use Rattle.frames.specs.Models.{Model, frames, newest}
 use Rattle.frames.specs.Layouts.{layout, frame_words}
 use Rattle.frames.specs.Reasons.{HandlerOf, Reason, Clear, First, leave_reasons, try_reasons, untry_reasons, raise_reasons, slot_reasons, register_reasons}
@@ -25,17 +25,17 @@ use Rattle.frames.proofs.Rewrites.{SameButHandlers, SameButRegisters, handlers_s
 use Rattle.frames.proofs.ViewLaws.{runs, after_none, after_one, fit_clear}
 
 -- the running frame is gone
-leave_stands : (rows : Rows) (ws : List ℕ) (st ts : State) (s : Model) (older : List Frame) → Stands rows ws st s → s.older ≡ older → 1 < st.depth → (HandlerOf s (newest s) → ⊥) → Fell (st.depth - 1 - 1) st ts → Stands rows ws ts (onto s s.handlers older)
+leave_stands : (rows : Rows) (ws : List ℕ) (st ts : State) (s : Model) (older : List Frame) → Stands rows ws st s → s.older ≡ older → 1 < depth st → (HandlerOf s (newest s) → ⊥) → Fell (depth st - 1 - 1) st ts → Stands rows ws ts (onto s s.handlers older)
 leave_stands rows ws st ts s [] h e deep none fell = let d = h.lies.deep in let n : length s.older ≡ 0 = ap length e in absurd (omega arith)
 leave_stands rows ws st ts s (f ∷ fs) h e deep none fell =
     let d = h.lies.deep in
     let n : length s.older ≡ suc (length fs) = ap length e in
-    let at : st.depth - 1 - 1 ≡ length fs = omega arith in
+    let at : depth st - 1 - 1 ≡ length fs = omega arith in
     fell_stands rows ws st ts s (s.current ∷ []) fs f h (ap (λ q. s.current ∷ q) e) (subst (λ k. Fell k st ts) at fell)
     (λ i l. let under = handlers_below st s h.handled none i l in omega arith)
 
-pub leave_accepted : (v : View) (rows : Rows) (count : ℕ) (ts : State) (s : Model) → StandsFor v s → v.state.phase ≡ Running → 1 < v.state.depth → (HandlerOf s (newest s) → ⊥) →
-    rows ≡ v.rows → count ≡ (v.count + 1) % 2 ^ 32 → Fell (v.state.depth - 1 - 1) v.state ts → Accepted v (view rows count v.words ts) (leave_reasons s) 1 (left s)
+pub leave_accepted : (v : View) (rows : Rows) (count : ℕ) (ts : State) (s : Model) → StandsFor v s → v.state.phase ≡ Running → 1 < depth v.state → (HandlerOf s (newest s) → ⊥) →
+    rows ≡ v.rows → count ≡ (v.count + 1) % 2 ^ 32 → Fell (depth v.state - 1 - 1) v.state ts → Accepted v (view rows count v.words ts) (leave_reasons s) 1 (left s)
 leave_accepted v rows count ts s h on deep none same counted fell = record {
   clear = (runs v.rows v.words v.state s h on, (λ z. let d = h.lies.deep in omega arith, (none, tt)));
   stands = subst (λ q. Stands q v.words ts (left s)) (sym same) (leave_stands v.rows v.words v.state ts s s.older h refl deep none fell);

@@ -1,6 +1,6 @@
 -- Frames fewer: the machine stands for the model without them.
 use Rattle.std.proofs.Common.{◌≡◌, ℕ, suc, ◌+◌, ◌*◌, ◌/◌, ◌<◌, ◌≤◌, min, List, ◌∷◌, ◌++◌, length, get_or, take, sym, ap, ◌∙◌, subst, ⊎_elim, append_assoc, le-div_iff_mul-le, div-mul-le_self, arith}
-use Rattle.std.proofs.lemmas.List.{length-append, take-take, get_or_default}
+use Rattle.std.proofs.lemmas.List.{length-append, length-take-le, take-take, get_or-take, get_or_default}
 use Rattle.std.proofs.lemmas.Bool.{cases_lt}
 use Rattle.frame_map.specs.Maps.{Rows}
 use Rattle.scan.specs.Frames.{Frame, top}
@@ -86,8 +86,11 @@ module _ (rows : Rows) (ws : List ℕ) (st ts : State) (s : Model) (xs fs : List
     lies = record {
       laid = laid_still;
       fits = let l = h.lies.fits in let e : top (frames s) ≡ top (xs ++ (f ∷ fs)) = ap top parts in let part = top_part xs (f ∷ fs) in omega arith;
-      deep = fell.shallower ∙ (let d = h.lies.deep in let e = deeper in omega arith);
-      edged = λ ys zs e. ap (λ q. get_or q (length zs) 0) fell.edges_same ∙ h.lies.edged (xs ++ ys) zs (part_of ys zs e);
+      deep = let n = ap length fell.edges_left ∙ length-take-le (suc (suc (length fs))) st.edges.items (let d = h.lies.deep in let e = deeper in omega arith) in omega arith;
+      edged = λ ys zs e.
+          ap (λ q. get_or q (length zs) 0) fell.edges_left
+          ∙ get_or-take (suc (suc (length fs))) st.edges.items (length zs) 0 (let n = ap length e ∙ length-append ys zs in omega arith)
+          ∙ h.lies.edged (xs ++ ys) zs (part_of ys zs e);
     };
     handled = record {
       handlers_are = dropped_nothing (λ r. r.frame) (length fs) (records st.handlers) (records ts.handlers) fell.handlers_dropped quiet ∙ h.handled.handlers_are;

@@ -1,11 +1,12 @@
 -- A frame more: the machine stands for the model with it.
-use Rattle.std.proofs.Common.{◌≡◌, ℕ, suc, ◌+◌, ◌-◌, ◌*◌, ◌%◌, ◌^◌, ◌<◌, ◌≤◌, false, cond, ◌&&◌, eqb, ltb, leb, List, ◌∷◌, ◌++◌, length, get_or, take, drop, set, replicate, Some, sym, ap, ◌∙◌, subst, ⊎_elim, append_assoc, add-one, arith}
-use Rattle.std.proofs.lemmas.List.{length-append, length-take-le, length-drop, length-replicate, take_at, drop_at, get_or-set_same, get_or-set_other}
+use Rattle.std.proofs.Common.{◌≡◌, ℕ, suc, ◌+◌, ◌-◌, ◌*◌, ◌%◌, ◌^◌, ◌<◌, ◌≤◌, false, cond, ◌&&◌, eqb, ltb, leb, List, [], ◌∷◌, ◌++◌, length, get_or, take, drop, replicate, Some, sym, ap, ◌∙◌, subst, ⊎_elim, append_assoc, arith}
+use Rattle.std.proofs.lemmas.List.{length-append, length-take-le, length-drop, length-replicate, length_push, take_at, drop_at, get_or_push, get_or_append_left}
 use Rattle.std.proofs.lemmas.Bool.{lt-leb, and_right}
 use Rattle.frame_map.specs.Maps.{Rows}
 use Rattle.frame_map.specs.declared.row.Row.{Row}
 use Rattle.scan.specs.Frames.{Frame, size, top}
-use Rattle.frames.specs.Tables.{records}
+use Rattle.scan.proofs.StackLaws.{top-cons}
+use Rattle.frames.specs.Tables.{records, depth}
 use Rattle.frames.specs.Models.{Model, frames}
 use Rattle.frames.specs.Layouts.{marked, marker, frame_words, layout}
 use Rattle.frames.specs.Changes.{entered}
@@ -15,7 +16,7 @@ use Rattle.frames.specs.Views.{View, view, StandsFor, Accepted}
 use Rattle.frames.specs.declared.state.Phase.TheVariants.{Running}
 use Rattle.frames.specs.declared.state.State.{State}
 use Rattle.frames.proofs.ViewLaws.{runs, after_one, fit_clear, fit_describes}
-use Rattle.frames.proofs.LayoutLaws.{top-cons, layout-cons}
+use Rattle.frames.proofs.LayoutLaws.{layout-cons}
 use Rattle.frames.proofs.StackLaws.{split_cons, waiting-cons}
 
 -- all but the frames is as it was
@@ -87,9 +88,9 @@ module _ (rows : Rows) (ws : List ℕ) (st ts : State) (s : Model) (p n : ℕ) (
       ∙ drop_at (take (top (frames s)) ws ++ (p ∷ replicate (n - 1) 0)) (drop (top (frames s) + n) ws) (top (frames s) + n) front_length
       ∙ ap (λ k. drop k ws) (sym new_top)
 
-  pub entered_stands : Describes (rows p) (size s.current) → length (frames s) < 256 → SameTables st ts → ts.depth ≡ st.depth + 1 →
-      ts.edges ≡ set st.edges (st.depth + 1) (top (frames s) + n) → Stands rows (laid_at ws (top (frames s)) p n) ts (entered s p n)
-  entered_stands fits few same deep edges = record {
+  pub entered_stands : Describes (rows p) (size s.current) → length (frames s) < 256 → SameTables st ts →
+      ts.edges.items ≡ st.edges.items ++ (top (frames s) + n) ∷ [] → Stands rows (laid_at ws (top (frames s)) p n) ts (entered s p n)
+  entered_stands fits few same edges = record {
     placed = record {
       rows_are = h.placed.rows_are;
       room_is = written_length ∙ h.placed.room_is;
@@ -105,7 +106,7 @@ module _ (rows : Rows) (ws : List ℕ) (st ts : State) (s : Model) (p n : ℕ) (
     lies = record {
       laid = new_laid;
       fits = let t = new_top in let l = written_length in omega arith;
-      deep = deep ∙ add-one st.depth ∙ ap suc h.lies.deep;
+      deep = let n = ap length edges ∙ length_push st.edges.items (top (frames s) + n) in let d = h.lies.deep in omega arith;
       edged = λ xs fs e. ⊎_elim (λ (all : fs ≡ fresh p n ∷ frames s). edged_all fs all) (λ (part : (zs : List Frame) × (frames s ≡ zs ++ fs)). edged_part part.0 fs part.1) (split_cons (fresh p n) (frames s) xs fs e);
     };
     handled = record {
@@ -125,22 +126,18 @@ module _ (rows : Rows) (ws : List ℕ) (st ts : State) (s : Model) (p n : ℕ) (
     waiting = waiting-cons rows (fresh p n) s.current s.older fits h.waiting;
   }
     where
-      long : length st.edges ≡ 257
-      long = st.edging
-
-      edged_all : (fs : List Frame) → fs ≡ fresh p n ∷ frames s → get_or ts.edges (length fs) 0 ≡ top fs
+      edged_all : (fs : List Frame) → fs ≡ fresh p n ∷ frames s → get_or ts.edges.items (length fs) 0 ≡ top fs
       edged_all fs all =
-          let at : length fs ≡ st.depth + 1 = ap length all ∙ ap suc (sym h.lies.deep) ∙ sym (add-one st.depth) in
+          let long = ap length all in
           ap (λ q. get_or q (length fs) 0) edges
-          ∙ ap (λ k. get_or (set st.edges (st.depth + 1) (top (frames s) + n)) k 0) at
-          ∙ get_or-set_same st.edges (st.depth + 1) (top (frames s) + n) 0 (let d = h.lies.deep in omega (arith, long))
+          ∙ get_or_push st.edges.items (top (frames s) + n) 0 (length fs) (let d = h.lies.deep in omega arith)
           ∙ sym new_top ∙ ap top (sym all)
 
-      edged_part : (zs fs : List Frame) → frames s ≡ zs ++ fs → get_or ts.edges (length fs) 0 ≡ top fs
+      edged_part : (zs fs : List Frame) → frames s ≡ zs ++ fs → get_or ts.edges.items (length fs) 0 ≡ top fs
       edged_part zs fs e =
-          let under : length zs + length fs ≡ st.depth = sym (length-append zs fs) ∙ ap length (sym e) ∙ sym h.lies.deep in
+          let under : length zs + length fs ≡ depth st = sym (length-append zs fs) ∙ ap length (sym e) ∙ sym h.lies.deep in
           ap (λ q. get_or q (length fs) 0) edges
-          ∙ get_or-set_other st.edges (st.depth + 1) (length fs) (top (frames s) + n) 0 (λ same_place. let z : ⊥ = omega arith in z)
+          ∙ get_or_append_left st.edges.items ((top (frames s) + n) ∷ []) 0 (length fs) (let some = st.some in omega arith)
           ∙ h.lies.edged zs fs e
 
       marks : (xs fs : List Frame) (f : Frame) (k : ℕ) → fresh p n ∷ frames s ≡ xs ++ (f ∷ fs) → length fs ≡ suc k * s.spacing → length fs ≤ s.level →
@@ -161,10 +158,10 @@ module _ (rows : Rows) (ws : List ℕ) (st ts : State) (s : Model) (p n : ℕ) (
 
 -- an enter that is accepted
 pub enter_accepted : (v : View) (rows : Rows) (count : ℕ) (ws : List ℕ) (ts : State) (s : Model) (p n m : ℕ) (row : Row) → StandsFor v s → v.state.phase ≡ Running →
-    1 ≤ n → n ≤ 32 → v.state.depth < 256 → top (frames s) + n ≤ length v.words → m ≡ size s.current → (v.rows p ≡ Some row) × (row.size ≡ m) → rows ≡ v.rows → count ≡ (v.count + 1) % 2 ^ 32 →
-    ws ≡ laid_at v.words (top (frames s)) p n → SameTables v.state ts → ts.depth ≡ v.state.depth + 1 → ts.edges ≡ set v.state.edges (v.state.depth + 1) (top (frames s) + n) →
+    1 ≤ n → n ≤ 32 → depth v.state < 256 → top (frames s) + n ≤ length v.words → m ≡ size s.current → (v.rows p ≡ Some row) × (row.size ≡ m) → rows ≡ v.rows → count ≡ (v.count + 1) % 2 ^ 32 →
+    ws ≡ laid_at v.words (top (frames s)) p n → SameTables v.state ts → ts.edges.items ≡ v.state.edges.items ++ (top (frames s) + n) ∷ [] →
     Accepted v (view rows count ws ts) (enter_reasons s p n) 1 (entered s p n)
-enter_accepted v rows count ws ts s p n m row h on some most shallow fits sized found same counted words tables deep edges = record {
+enter_accepted v rows count ws ts s p n m row h on some most shallow fits sized found same counted words tables edges = record {
   clear = (
     runs v.rows v.words v.state s h on,
     (
@@ -178,7 +175,7 @@ enter_accepted v rows count ws ts s p n m row h on some most shallow fits sized 
   stands =
       subst (λ q. Stands q ws ts (entered s p n)) (sym same)
       (subst (λ q. Stands v.rows q ts (entered s p n)) (sym words)
-      (entered_stands v.rows v.words v.state ts s p n h some fits (fit_describes v.rows v.words v.state s p m h sized row found.0 found.1) (let d = h.lies.deep in omega arith) tables deep edges));
+      (entered_stands v.rows v.words v.state ts s p n h some fits (fit_describes v.rows v.words v.state s p m h sized row found.0 found.1) (let d = h.lies.deep in omega arith) tables edges));
   counted = counted ∙ sym (after_one v.count);
   keeps = subst (λ q. drop (top (frames (entered s p n))) q ≡ drop (top (frames (entered s p n))) v.words) (sym words) (entered_keeps v.rows v.words v.state ts s p n h some fits);
 }

@@ -1,8 +1,8 @@
 -- Laws of handlers: the newest tells whether the running frame has one, and handlers of older frames come first.
-use Rattle.std.proofs.Common.{◌≡◌, ℕ, suc, ◌+◌, ◌-◌, ◌<◌, ◌≤◌, Bool, true, false, eqb, List, [], ◌∷◌, ◌++◌, length, get_or, take, sym, refl, ap, ◌∙◌, subst, ⊎_elim, arith}
+use Rattle.std.proofs.Common.{◌≡◌, ℕ, Bool, true, false, suc, ◌+◌, ◌-◌, ◌<◌, ◌≤◌, List, [], ◌∷◌, ◌++◌, length, get_or, take, sym, refl, ap, ◌∙◌, subst, ⊎_elim, arith}
 use Rattle.std.proofs.lemmas.List.{length_push, length-take-le, get_or_at, get_or-take, get_or_push, get_or_append_left, take_at, take_all}
-use Rattle.std.proofs.lemmas.Bool.{eqb-true, eqb-false, cases_eq, cases_lt}
-use Rattle.frames.specs.Tables.{Newest}
+use Rattle.std.proofs.lemmas.Bool.{cases_eq, cases_lt}
+use Rattle.frames.specs.Tables.{records, Newest}
 use Rattle.frames.specs.Models.{Model, newest}
 use Rattle.frames.specs.Reasons.{HandlerOf}
 use Rattle.frames.specs.Changes.{top_handler, other_handlers}
@@ -10,17 +10,7 @@ use Rattle.frames.specs.Falling.{NewestOf}
 use Rattle.frames.specs.Standing.{Handled, no_handler}
 use Rattle.frames.specs.declared.records.Handler.{Handler}
 use Rattle.frames.specs.declared.state.State.{State}
-use Rattle.frames.proofs.TableLaws.{newest_of, newest_same, none_newest}
-
-pub newest_decides : (hs ys : List Handler) (x : Handler) (i : ℕ) → Newest hs x ys → NewestOf hs i (eqb x.frame i)
-newest_decides hs ys x i n = go (eqb x.frame i) refl
-  where
-    go : (b : Bool) → eqb x.frame i ≡ b → NewestOf hs i b
-    go true e = (ys, x, n, eqb-true x.frame i e)
-    go false e = λ zs z m same. eqb-false x.frame i e (ap (λ r. r.frame) (newest_same hs ys zs x z n m) ∙ same)
-
-pub none_decides : (hs : List Handler) (i : ℕ) → hs ≡ [] → NewestOf hs i false
-none_decides hs i e = λ zs z m same. none_newest zs z (subst (λ q. Newest q z zs) e m)
+use Rattle.frames.proofs.TableLaws.{newest_of}
 
 -- the newest of the model's handlers
 pub newest_is : (hs ys : List Handler) (x : Handler) → Newest hs x ys → (get_or hs (length hs - 1) no_handler ≡ x) × (take (length hs - 1) hs ≡ ys) × (length hs ≡ suc (length ys))
@@ -36,18 +26,23 @@ pub last_split : (hs : List Handler) → 0 < length hs → Newest hs (get_or hs 
 last_split hs some = subst (λ q. q ≡ take (length hs - 1) hs ++ get_or hs (length hs - 1) no_handler ∷ []) (take_all (length hs) hs (omega arith)) (newest_of hs (length hs) no_handler some (omega arith))
 
 -- the newest handler is the running frame's exactly if some handler is
-pub handler_there : (s : Model) (i : ℕ) → NewestOf s.handlers i true → HandlerOf s i
-handler_there s i (ys, x, n, e) =
-    let is = newest_is s.handlers ys x n in
-    let long = is.2 in
-    (length s.handlers - 1, omega arith, ap (λ r. r.frame) is.0 ∙ e)
+module _ (st : State) (s : Model) (i : ℕ) (h : Handled st s) (at : i ≡ newest s) where
+  told : (b : Bool) → NewestOf (records st.handlers) i b → NewestOf s.handlers (newest s) b
+  told b n = subst (λ q. NewestOf q (newest s) b) h.handlers_are (subst (λ k. NewestOf (records st.handlers) k b) at n)
 
-pub handler_none : (st : State) (s : Model) → Handled st s → NewestOf s.handlers (newest s) false → HandlerOf s (newest s) → ⊥
-handler_none st s h none (k, l, e) =
-    let last = length s.handlers - 1 in
-    let under = h.inside last (omega arith) in
-    let over : (get_or s.handlers k no_handler).frame ≤ (get_or s.handlers last no_handler).frame = ⊎_elim (λ (same : k ≡ last). subst (λ q. (get_or s.handlers k no_handler).frame ≤ (get_or s.handlers q no_handler).frame) same (omega arith)) (λ (other : k ≡ last → ⊥). h.ordered k last (omega arith) (omega arith)) (cases_eq k last) in
-    none (take last s.handlers) (get_or s.handlers last no_handler) (last_split s.handlers (omega arith)) (omega arith)
+  pub handler_there : NewestOf (records st.handlers) i true → HandlerOf s (newest s)
+  handler_there n =
+      let there = told true n in
+      let is = newest_is s.handlers there.0 there.1 there.2 in
+      let long = is.2 in
+      (length s.handlers - 1, omega arith, ap (λ r. r.frame) is.0 ∙ there.3)
+
+  pub handler_none : NewestOf (records st.handlers) i false → HandlerOf s (newest s) → ⊥
+  handler_none n (k, l, e) =
+      let last = length s.handlers - 1 in
+      let under = h.inside last (omega arith) in
+      let over : (get_or s.handlers k no_handler).frame ≤ (get_or s.handlers last no_handler).frame = ⊎_elim (λ (same : k ≡ last). subst (λ q. (get_or s.handlers k no_handler).frame ≤ (get_or s.handlers q no_handler).frame) same (omega arith)) (λ (other : k ≡ last → ⊥). h.ordered k last (omega arith) (omega arith)) (cases_eq k last) in
+      told false n (take last s.handlers) (get_or s.handlers last no_handler) (last_split s.handlers (omega arith)) (omega arith)
 
 pub no_handlers : (s : Model) (i : ℕ) → s.handlers ≡ [] → HandlerOf s i → ⊥
 no_handlers s i none (k, l, e) = let z : length s.handlers ≡ 0 = ap length none in omega arith

@@ -3,11 +3,8 @@ use Rattle.std.proofs.Common.{◌≡◌, ℕ, suc, ◌+◌, ◌%◌, ◌<◌, �
 use Rattle.std.proofs.lemmas.List.{length-append, append-nil, get_or_at, take_at}
 use Rattle.std.proofs.lemmas.Bool.{cases_lt, lt-leb, le-leb}
 use Rattle.scan.specs.Frames.{Frame, size, top}
+use Rattle.scan.proofs.StackLaws.{top-cons}
 use Rattle.frames.specs.Layouts.{marked, marker, frame_words, layout}
-
-pub top-cons : (f : Frame) (fs : List Frame) → top (f ∷ fs) ≡ top fs + size f
-unfolding top
-top-cons f fs = refl
 
 -- the older part of a stack is no higher
 pub top_part : (xs fs : List Frame) → top fs ≤ top (xs ++ fs)

@@ -1,6 +1,7 @@
 -- Other handlers, other registers, other words in slots: the machine stands for the model with them.
 use Rattle.std.proofs.Common.{◌≡◌, ℕ, zero, suc, ◌+◌, ◌-◌, ◌*◌, ◌<◌, ◌≤◌, cond, List, [], ◌∷◌, ◌++◌, length, get_or, take, drop, set, Some, None, Option, sym, refl, ap, ◌∙◌, subst, arith}
 use Rattle.std.proofs.lemmas.List.{length-set, set-append_right, drop-set-lt}
+use Rattle.std.proofs.Math.Seq.{take-set-lt}
 use Rattle.frame_map.specs.Maps.{Rows}
 use Rattle.frame_map.specs.declared.row.Row.{Row}
 use Rattle.scan.specs.Frames.{Frame, size, top}
@@ -20,7 +21,6 @@ use Rattle.frames.proofs.LayoutLaws.{length-layout, layout-cons}
 pub record SameButHandlers (st ts : State) : Type 0 where
   pub phase_same : ts.phase ≡ st.phase
   pub spacing_same : ts.spacing ≡ st.spacing
-  pub depth_same : ts.depth ≡ st.depth
   pub edges_same : ts.edges ≡ st.edges
   pub registers_same : ts.registers ≡ st.registers
   pub level_same : ts.level ≡ st.level
@@ -45,8 +45,8 @@ handlers_stand rows ws st ts s hs h same are inside ordered = record {
   lies = record {
     laid = h.lies.laid;
     fits = h.lies.fits;
-    deep = same.depth_same ∙ h.lies.deep;
-    edged = λ xs fs e. ap (λ q. get_or q (length fs) 0) same.edges_same ∙ h.lies.edged xs fs e;
+    deep = ap (λ e. length e.items - 1) same.edges_same ∙ h.lies.deep;
+    edged = λ xs fs e. ap (λ q. get_or q.items (length fs) 0) same.edges_same ∙ h.lies.edged xs fs e;
   };
   handled = record { handlers_are = are; inside = inside; ordered = ordered };
   marked = record {
@@ -92,7 +92,6 @@ with_words s f fs rs = record {
 pub record SameButRegisters (st ts : State) : Type 0 where
   pub phase_same : ts.phase ≡ st.phase
   pub spacing_same : ts.spacing ≡ st.spacing
-  pub depth_same : ts.depth ≡ st.depth
   pub edges_same : ts.edges ≡ st.edges
   pub handlers_same : ts.handlers ≡ st.handlers
   pub level_same : ts.level ≡ st.level
@@ -132,11 +131,11 @@ module _ (rows : Rows) (ws vs : List ℕ) (st ts : State) (s : Model) (g : Frame
               let n : length vs ≡ length fs = alike_length vs fs a.2.2 in
               ap (λ k. get_or (records st.records) k no_record) (sym n) ∙ h.recorded.known us vs u v e' (omega arith) ∙ record_as rows u.back f.back v e vs fs a.0 a.2
 
-  edges : (xs fs : List Frame) → g ∷ gs ≡ xs ++ fs → get_or ts.edges (length fs) 0 ≡ top fs
+  edges : (xs fs : List Frame) → g ∷ gs ≡ xs ++ fs → get_or ts.edges.items (length fs) 0 ≡ top fs
   edges xs fs e =
       let part = alike_part (frames s) (g ∷ gs) xs fs alike e in
-      ap (λ q. get_or q (length fs) 0) same.edges_same
-      ∙ ap (λ k. get_or st.edges k 0) (sym (alike_length part.1 fs part.3))
+      ap (λ q. get_or q.items (length fs) 0) same.edges_same
+      ∙ ap (λ k. get_or st.edges.items k 0) (sym (alike_length part.1 fs part.3))
       ∙ h.lies.edged part.0 part.1 part.2
       ∙ alike_top part.1 fs part.3
 
@@ -157,7 +156,7 @@ module _ (rows : Rows) (ws vs : List ℕ) (st ts : State) (s : Model) (g : Frame
     lies = record {
       laid = laid;
       fits = let l = h.lies.fits in let t = same_top in omega arith;
-      deep = same.depth_same ∙ h.lies.deep ∙ alike_length (frames s) (g ∷ gs) alike;
+      deep = ap (λ e. length e.items - 1) same.edges_same ∙ h.lies.deep ∙ alike_length (frames s) (g ∷ gs) alike;
       edged = edges;
     };
     handled = record {
@@ -177,13 +176,6 @@ module _ (rows : Rows) (ws vs : List ℕ) (st ts : State) (s : Model) (g : Frame
     waiting = alike_waiting rows (frames s) (g ∷ gs) alike h.waiting;
   }
 
--- the start of a list in which an item was set
-pub take-set_in : {X : Type 0} (n : ℕ) (xs : List X) (i : ℕ) (v : X) → take n (set xs i v) ≡ set (take n xs) i v
-take-set_in zero xs i v = refl
-take-set_in (suc n) [] i v = refl
-take-set_in (suc n) (x ∷ xs) zero v = refl
-take-set_in (suc n) (x ∷ xs) (suc i) v = ap (λ q. x ∷ q) (take-set_in n xs i v)
-
 set_behind : (x : ℕ) (xs : List ℕ) (i v : ℕ) → 1 ≤ i → set (x ∷ xs) i v ≡ x ∷ set xs (i - 1) v
 set_behind x xs zero v l = absurd (omega arith)
 set_behind x xs (suc i) v l = ap (λ k. x ∷ set xs k v) (let e : i ≡ suc i - 1 = omega arith in e)
@@ -201,7 +193,7 @@ module _ (rows : Rows) (ws : List ℕ) (st : State) (s : Model) (i w : ℕ) (h :
       let u = s.level in
       let first = cond (marked m u (length s.older)) (marker m (length s.older)) s.current.back in
       ap (λ k. take k (set ws (top s.older + i) w)) changed_top
-      ∙ take-set_in (top (frames s)) ws (top s.older + i) w
+      ∙ take-set-lt (top (frames s)) ws (top s.older + i) w (let t = tops in omega arith)
       ∙ ap (λ q. set q (top s.older + i) w) (h.lies.laid ∙ layout-cons m u s.current s.older)
       ∙ set-append_right (layout m u s.older) (first ∷ s.current.slots) (top s.older) (top s.older + i) w (length-layout m u s.older) (omega arith)
       ∙ ap (λ k. layout m u s.older ++ set (first ∷ s.current.slots) k w) (let e : top s.older + i - top s.older ≡ i = omega arith in e)
@@ -211,7 +203,7 @@ module _ (rows : Rows) (ws : List ℕ) (st : State) (s : Model) (i w : ℕ) (h :
   pub slot_stands : Stands rows (set ws (top s.older + i) w) st (with_slot s i w)
   slot_stands =
       words_stand rows ws (set ws (top s.older + i) w) st st s (with_slot s i w).current s.older s.registers h
-      (record { phase_same = refl; spacing_same = refl; depth_same = refl; edges_same = refl; handlers_same = refl; level_same = refl; markers_same = refl; records_same = refl })
+      (record { phase_same = refl; spacing_same = refl; edges_same = refl; handlers_same = refl; level_same = refl; markers_same = refl; records_same = refl })
       (refl, sym (length-set s.current.slots (i - 1) w), alike_same s.older)
       (length-set ws (top s.older + i) w) slot_laid h.placed.registers_are
 

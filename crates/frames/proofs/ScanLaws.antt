@@ -1,5 +1,5 @@
 -- What a scan learns, frame by frame.
-use Rattle.std.proofs.Common.{◌≡◌, ℕ, ◌-◌, ◌<◌, ◌≤◌, List, [], ◌∷◌, ◌++◌, length, get_or, take, Some, None, Option, sym, refl, ap, ◌∙◌, subst, ⊎_elim, append_assoc, arith}
+use Rattle.std.proofs.Common.{◌≡◌, ℕ, ◌-◌, ◌<◌, ◌≤◌, List, [], ◌∷◌, ◌++◌, length, get_or, take, Some, None, Option, MatchOption, option_map, sym, refl, ap, ◌∙◌, subst, ⊎_elim, append_assoc, arith}
 use Rattle.std.proofs.lemmas.List.{length-append, length_push, length-take-le, get_or_append_left, get_or_push, get_or-take, ext_get_or, nil_from_length}
 use Rattle.std.proofs.lemmas.Bool.{cases_eq}
 use Rattle.frame_map.specs.Maps.{Rows}
@@ -109,8 +109,8 @@ kept_same rows ws st ts s h same = record {
   lies = record {
     laid = h.lies.laid;
     fits = h.lies.fits;
-    deep = same.depth_same ∙ h.lies.deep;
-    edged = λ xs fs e. ap (λ q. get_or q (length fs) 0) same.edges_same ∙ h.lies.edged xs fs e;
+    deep = ap (λ e. length e.items - 1) same.edges_same ∙ h.lies.deep;
+    edged = λ xs fs e. ap (λ q. get_or q.items (length fs) 0) same.edges_same ∙ h.lies.edged xs fs e;
   };
   marked = record {
     many = ap (λ t. length (records t)) same.markers_same ∙ h.marked.many;
@@ -157,7 +157,7 @@ pub described : (rows : Rows) (p : ℕ) (xs fs : List Frame) (f : Frame) → Wai
 unfolding point_of
 described rows p [] fs f w d = d refl
 described rows p (x ∷ []) fs f w d = (waiting_below rows x f fs w).0
-described rows p (x ∷ (y ∷ ys)) fs f w d = described rows x.back (y ∷ ys) fs f (waiting_below rows x y (ys ++ (f ∷ fs)) w).1 (λ e. let z : ◌≡◌ {A = ℕ} 0 1 = cc in absurd (omega arith))
+described rows p (x ∷ (y ∷ ys)) fs f w d = described rows x.back (y ∷ ys) fs f (waiting_below rows x y (ys ++ (f ∷ fs)) w).1 (λ e. cc)
 
 -- the row of a waiting frame
 pub waiting_row : (rows : Rows) (xs fs : List Frame) (g f : Frame) (gs : List Frame) → gs ≡ xs ++ (g ∷ (f ∷ fs)) → Waiting rows gs → Describes (rows g.back) (size f)
@@ -165,7 +165,7 @@ waiting_row rows xs fs g f gs e w = (waiting_below rows g f fs (waiting_part row
 
 pub described_some : (o : Option Row) (n : ℕ) → Describes o n → None ≡ o → ⊥
 described_some None n d e = d
-described_some (Some r) n d e = let z : ◌≡◌ {A = ℕ} 0 1 = cc in omega arith
+described_some (Some r) n d e = cc
 
 -- what one frame's step gives is the scan's record
 pub decoded_held : (rows : Rows) (p : ℕ) (row : Row) (f : Frame) (fs : List Frame) (k behind : ℕ) → Some row ≡ rows p → k ≡ held rows f.back fs → behind ≡ held_by (Some row) k → behind ≡ held rows p (f ∷ fs)
@@ -182,12 +182,19 @@ decoded_record rows p row f fs i k roots behind e n a r b =
 pub held_none_at : (rows : Rows) (gs : List Frame) (p : ℕ) → length gs ≡ 0 → 0 ≡ held rows p gs
 held_none_at rows gs p n = sym (ap (λ q. held rows p q) (nil_from_length gs n) ∙ held_none rows p)
 
-pub held_below : (rows : Rows) (ws : List ℕ) (st : State) (s : Model) (xs gs : List Frame) (g : Frame) (from : ℕ) (r : Record) → Stands rows ws st s → frames s ≡ xs ++ (g ∷ gs) → length gs ≡ from → from ≤ s.level → 0 < from →
+held_below : (rows : Rows) (ws : List ℕ) (st : State) (s : Model) (xs gs : List Frame) (g : Frame) (from : ℕ) (r : Record) → Stands rows ws st s → frames s ≡ xs ++ (g ∷ gs) → length gs ≡ from → from ≤ s.level → 0 < from →
     ((d : Record) → r ≡ get_or (records st.records) (from - 1) d) → r.held ≡ held rows g.back gs
 held_below rows ws st s xs [] g from r h parts n low some is = absurd (omega arith)
 held_below rows ws st s xs (f ∷ fs) g from r h parts n low some is =
     let at : from - 1 ≡ length fs = omega arith in
     ap (λ q. q.held) (is no_record ∙ ap (λ k. get_or (records st.records) k no_record) at ∙ h.recorded.known xs fs g f parts (omega arith))
 
-pub held_there : (rows : Rows) (ws : List ℕ) (st : State) (s : Model) (from : ℕ) → Stands rows ws st s → from ≤ s.level → 0 < from → length (records st.records) ≤ from - 1 → ⊥
+held_there : (rows : Rows) (ws : List ℕ) (st : State) (s : Model) (from : ℕ) → Stands rows ws st s → from ≤ s.level → 0 < from → length (records st.records) ≤ from - 1 → ⊥
 held_there rows ws st s from h low some past = let enough = h.recorded.enough in omega arith
+
+-- what is answered of the record before it
+pub held_answers : (rows : Rows) (ws : List ℕ) (st : State) (s : Model) (xs gs : List Frame) (g : Frame) (from : ℕ) (o : Option Record) → Stands rows ws st s → frames s ≡ xs ++ (g ∷ gs) → length gs ≡ from → from ≤ s.level → 0 < from →
+    MatchOption o (length (records st.records) ≤ from - 1) (λ r. (from - 1 < length (records st.records)) × ((d : Record) → r ≡ get_or (records st.records) (from - 1) d)) →
+    option_map (λ r. r.held) o ≡ Some (held rows g.back gs)
+held_answers rows ws st s xs gs g from None h parts n low some past = absurd (held_there rows ws st s from h low some past)
+held_answers rows ws st s xs gs g from (Some r) h parts n low some found = ap Some (held_below rows ws st s xs gs g from r h parts n low some found.1)

@@ -5,16 +5,10 @@ use Rattle.frame_map.specs.Maps.{Rows}
 use Rattle.scan.specs.Frames.{Frame, size}
 use Rattle.frames.specs.Standing.{Waiting, Describes}
 
-same_tail : (f g : Frame) (fs gs : List Frame) → f ∷ fs ≡ g ∷ gs → fs ≡ gs
-same_tail f g fs gs e = cc
-
-same_head : (f g : Frame) (fs gs : List Frame) → f ∷ fs ≡ g ∷ gs → f ≡ g
-same_head f g fs gs e = cc
-
 -- a part of a stack with one frame more is all of it, or a part of the older ones
 pub split_cons : (g : Frame) (gs xs ys : List Frame) → g ∷ gs ≡ xs ++ ys → (ys ≡ g ∷ gs) ⊎ ((zs : List Frame) × (gs ≡ zs ++ ys))
 split_cons g gs [] ys e = inl (sym e)
-split_cons g gs (x ∷ xs) ys e = inr (xs, same_tail g x gs (xs ++ ys) e)
+split_cons g gs (x ∷ xs) ys e = inr (xs, (cc))
 
 -- each frame number has its frame
 pub frame_number : (fs : List Frame) (j : ℕ) → j < length fs → (above : List Frame) × (below : List Frame) × (f : Frame) × (fs ≡ above ++ (f ∷ below)) × (length below ≡ j)

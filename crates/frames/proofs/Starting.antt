@@ -1,7 +1,7 @@
 -- A fresh start: the machine stands for the model with one frame.
-use Rattle.std.proofs.Common.{◌≡◌, ℕ, suc, ◌+◌, ◌-◌, ◌*◌, ◌≤◌, List, [], ◌∷◌, ◌++◌, length, get_or, take, drop, set, replicate, sym, refl, ap, ◌∙◌, subst, ⊎_elim, suc-mul, arith}
+use Rattle.std.proofs.Common.{◌≡◌, ℕ, suc, ◌+◌, ◌-◌, ◌*◌, ◌≤◌, List, [], ◌∷◌, ◌++◌, length, get_or, take, drop, replicate, sym, refl, ap, ◌∙◌, subst, ⊎_elim, suc-mul, arith}
 use native.Mathlib.Nat.{zero-div}
-use Rattle.std.proofs.lemmas.List.{length-append, length-replicate, length-drop, take_at, drop_at, get_or-set_same, get_or-set_other, get_or-replicate, nil_from_length}
+use Rattle.std.proofs.lemmas.List.{length-append, length-replicate, length-drop, take_at, drop_at, nil_from_length}
 use Rattle.frame_map.specs.Maps.{Rows}
 use Rattle.scan.specs.Frames.{Frame, size, top}
 use Rattle.scan.proofs.StackLaws.{top_none, top-cons}
@@ -41,20 +41,17 @@ module _ (rows : Rows) (ws : List ℕ) (st : State) (m n : ℕ) (fair : FairStar
       ap (λ k. drop k (laid_at ws 0 0 n)) first_top ∙ drop_at (0 ∷ replicate (n - 1) 0) (drop (0 + n) ws) n first_words ∙ ap (λ k. drop k ws) (let a = first_top in let e : 0 + n ≡ top (frames (started rows (length ws) m n)) = omega arith in e)
 
   -- there is one frame, and none below it
-  edges : (xs fs : List Frame) → frames (started rows (length ws) m n) ≡ xs ++ fs → get_or st.edges (length fs) 0 ≡ top fs
+  edges : (xs fs : List Frame) → frames (started rows (length ws) m n) ≡ xs ++ fs → get_or st.edges.items (length fs) 0 ≡ top fs
   edges xs fs e =
       ⊎_elim
       (λ (all : fs ≡ frames (started rows (length ws) m n)).
       ap (λ q. get_or q (length fs) 0) fresh.edges_are
-      ∙ ap (λ k. get_or (set (replicate 257 0) 1 n) k 0) (ap length all)
-      ∙ get_or-set_same (replicate 257 0) 1 n 0 (let l : length (replicate {A = ℕ} 257 0) ≡ 257 = length-replicate {A = ℕ} 257 0 in omega arith)
+      ∙ ap (λ k. get_or (0 ∷ n ∷ []) k 0) (ap length all)
       ∙ sym first_top ∙ ap top (sym all))
       (λ (part : (zs : List Frame) × ([] ≡ zs ++ fs)).
       let none : length fs ≡ 0 = (let l = ap length part.1 ∙ length-append part.0 fs in omega arith) in
       ap (λ q. get_or q (length fs) 0) fresh.edges_are
-      ∙ ap (λ k. get_or (set (replicate 257 0) 1 n) k 0) none
-      ∙ get_or-set_other (replicate 257 0) 1 0 n 0 (λ z. let w : ⊥ = omega arith in w)
-      ∙ get_or-replicate 257 0 0 0 (omega arith)
+      ∙ ap (λ k. get_or (0 ∷ n ∷ []) k 0) none
       ∙ sym (ap top (nil_from_length fs none) ∙ top_none))
       (split_cons (started rows (length ws) m n).current [] xs fs e)
 
@@ -76,7 +73,7 @@ module _ (rows : Rows) (ws : List ℕ) (st : State) (m n : ℕ) (fair : FairStar
     lies = record {
       laid = start_laid;
       fits = let t = first_top in let l = start_length in let room = fair.3 in omega arith;
-      deep = fresh.depth_is;
+      deep = ap (λ q. length q - 1) fresh.edges_are;
       edged = edges;
     };
     handled = record { handlers_are = fresh.no_handlers; inside = λ i l. absurd (omega arith); ordered = λ i j l k. absurd (omega arith) };

@@ -1,7 +1,9 @@
 -- Laws of tables of records, over the list of a table's items and the number of its records.
-use Rattle.std.proofs.Common.{◌≡◌, ℕ, zero, suc, ◌+◌, ◌-◌, ◌<◌, ◌≤◌, min, Bool, true, false, List, [], ◌∷◌, ◌++◌, length, get_or, take, MatchBool, sym, refl, ap, ◌∙◌, subst, ⊎_elim, append_assoc, arith}
-use Rattle.std.proofs.lemmas.List.{take_more, take-take, take_all, length-append, append-nil, same_from_push, get_or_append_left, get_or-append-add, nil_from_length}
+use Rattle.std.proofs.Common.{◌≡◌, ℕ, zero, suc, ◌+◌, ◌-◌, ◌<◌, ◌≤◌, List, [], ◌∷◌, ◌++◌, length, get_or, take, Some, None, Option, MatchOption, append_assoc, Ok, Err, Result, MatchResult, sym, refl, ap, ◌∙◌, subst, ⊎_elim, arith}
+use Rattle.std.proofs.lemmas.List.{take_more, take_all, length-append, append-nil, same_from_push, get_or_append_left, get_or-append-add, nil_from_length}
 use Rattle.std.proofs.lemmas.Bool.{cases_lt}
+use Rattle.arrayvec.specs.CapacityError.{error_element}
+use Rattle.arrayvec.specs.declared.errors.CapacityError.{CapacityError}
 use Rattle.frames.specs.Tables.{Newest, DroppedAbove}
 
 -- the newest of n records of a list of items
@@ -10,32 +12,11 @@ newest_of xs n d some fits =
     let e : (n - 1) + 1 ≡ n = omega arith in
     subst (λ k. take k xs ≡ take (n - 1) xs ++ get_or xs (n - 1) d ∷ []) e (take_more xs (n - 1) d (omega arith))
 
--- the oldest of some records
-pub take_of_take : {R : Type 0} (xs : List R) (n count : ℕ) → take (min n count) xs ≡ take count (take n xs)
-take_of_take xs n count =
-    ⊎_elim
-    (λ (l : n < count). ap (λ k. take k xs) (omega arith) ∙ sym (take_all count (take n xs) (short xs n count l)))
-    (λ (l : count ≤ n). ap (λ k. take k xs) (omega arith) ∙ sym (take-take count n xs l))
-    (cases_lt n count)
-  where
-    short : {R : Type 0} (xs : List R) (n count : ℕ) → n < count → length (take n xs) ≤ count
-    short [] zero count l = omega arith
-    short [] (suc n) count l = omega arith
-    short (x ∷ xs) zero count l = omega arith
-    short (x ∷ xs) (suc n) count l = let h = short xs n (count - 1) (omega arith) in omega arith
-
--- nothing is dropped yet
-pub dropped_none : {R : Type 0} (frame : R → ℕ) (h : ℕ) (xs : List R) → ((x : R) (ys : List R) → Newest xs x ys → frame x ≤ h) → DroppedAbove frame h xs xs
-dropped_none frame h xs low = record { dropped = []; parts = sym (append-nil xs); above = λ k d l. absurd (omega arith); below = low }
-
 -- records of frames above h were dropped, from the newest on
 pub record Dropping {R : Type 0} (frame : R → ℕ) (h : ℕ) (before after : List R) : Type 0 where
   pub dropped : List R
   pub parts : before ≡ after ++ dropped
   pub above : (k : ℕ) (d : R) → k < length dropped → h < frame (get_or dropped k d)
-
-pub dropping_none : {R : Type 0} (frame : R → ℕ) (h : ℕ) (xs : List R) → Dropping frame h xs xs
-dropping_none frame h xs = record { dropped = []; parts = sym (append-nil xs); above = λ k d l. absurd (omega arith) }
 
 -- one more is dropped
 pub dropping_more : {R : Type 0} (frame : R → ℕ) (h : ℕ) (xs ys zs : List R) (x : R) → Dropping frame h xs ys → Newest ys x zs → h < frame x → Dropping frame h xs zs
@@ -49,10 +30,6 @@ dropping_more {R} frame h xs ys zs x s new high =
     each : (k : ℕ) (d : R) → k < length (x ∷ s.dropped) → h < frame (get_or (x ∷ s.dropped) k d)
     each zero d l = high
     each (suc k) d l = s.above k d (omega arith)
-
--- up to a record of a frame that is not above h, or to the end
-pub dropping_done : {R : Type 0} (frame : R → ℕ) (h : ℕ) (xs ys : List R) → Dropping frame h xs ys → ((x : R) (zs : List R) → Newest ys x zs → frame x ≤ h) → DroppedAbove frame h xs ys
-dropping_done frame h xs ys s low = record { dropped = s.dropped; parts = s.parts; above = s.above; below = low }
 
 -- there is one newest record at most
 pub newest_same : {R : Type 0} (xs ys zs : List R) (x z : R) → Newest xs x ys → Newest xs z zs → x ≡ z
@@ -109,6 +86,12 @@ dropped_nothing frame h xs ys s low =
     sym (s.parts ∙ ap (λ q. ys ++ q) (nil_from_length s.dropped none) ∙ append-nil ys)
 
 -- a push into a table that is not full is made
-pub pushed : {R : Type 0} (n : ℕ) (xs ys : List R) (x : R) (b : Bool) → length xs < n → MatchBool b (ys ≡ xs ++ x ∷ []) ((length xs ≡ n) × (ys ≡ xs)) → ys ≡ xs ++ x ∷ []
-pushed n xs ys x true l h = h
-pushed n xs ys x false l h = let full = h.0 in absurd (omega arith)
+pub pushed : {R : Type 0} (n : ℕ) (xs ys : List R) (x : R) (r : Result (Unit {0}) (CapacityError R)) → length xs < n →
+    MatchResult r (λ _. ys ≡ xs ++ x ∷ []) (λ e. (error_element e ≡ x) × (length xs ≡ n) × (ys ≡ xs)) → ys ≡ xs ++ x ∷ []
+pushed n xs ys x (Ok done) l h = h
+pushed n xs ys x (Err e) l h = let full = h.1 in absurd (omega arith)
+
+-- the newest record is popped
+pub popped : {R : Type 0} (xs ys zs : List R) (x : R) (o : Option R) → Newest xs x zs → MatchOption o ((xs ≡ []) × (ys ≡ [])) (λ z. Newest xs z ys) → Newest xs x ys
+popped xs ys zs x None n none = absurd (none_newest zs x (subst (λ q. Newest q x zs) none.0 n))
+popped xs ys zs x (Some z) n m = subst (λ q. Newest xs q ys) (newest_same xs ys zs z x m n) m

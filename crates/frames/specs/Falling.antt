@@ -1,5 +1,5 @@
 -- What the state keeps when frames are gone.
-use Rattle.std.specs.Prelude.{◌≡◌, ℕ, suc, min, Bool, List, MatchBool, ◌≢◌}
+use Rattle.std.specs.Prelude.{◌≡◌, ℕ, suc, min, Bool, List, take, MatchBool, ◌≢◌}
 use Rattle.frames.specs.Tables.{records, Newest, DroppedAbove}
 use Rattle.frames.specs.declared.records.Handler.{Handler}
 use Rattle.frames.specs.declared.state.State.{State}
@@ -8,9 +8,8 @@ use Rattle.frames.specs.declared.state.State.{State}
 pub record Fell (h : ℕ) (st ts : State) : Type 0 where
   pub phase_same : ts.phase ≡ st.phase
   pub spacing_same : ts.spacing ≡ st.spacing
-  pub edges_same : ts.edges ≡ st.edges
+  pub edges_left : ts.edges.items ≡ take (suc (suc h)) st.edges.items
   pub registers_same : ts.registers ≡ st.registers
-  pub shallower : ts.depth ≡ min (suc h) st.depth
   pub lower : ts.level ≡ min st.level h
   pub handlers_dropped : DroppedAbove (λ r. r.frame) h (records st.handlers) (records ts.handlers)
   pub markers_dropped : DroppedAbove (λ r. r.frame) h (records st.markers) (records ts.markers)

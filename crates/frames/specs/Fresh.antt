@@ -1,5 +1,5 @@
 -- The state of a machine with one frame and empty tables.
-use Rattle.std.specs.Prelude.{◌≡◌, ℕ, max, [], replicate, slice_set}
+use Rattle.std.specs.Prelude.{◌≡◌, ℕ, max, [], ◌∷◌, replicate}
 use Rattle.frames.specs.Tables.{records}
 use Rattle.frames.specs.declared.state.Phase.{Phase}
 use Rattle.frames.specs.declared.state.State.{State}
@@ -7,8 +7,7 @@ use Rattle.frames.specs.declared.state.State.{State}
 pub record Fresh (phase : Phase) (m n : ℕ) (st : State) : Type 0 where
   pub phase_is : st.phase ≡ phase
   pub spacing_is : st.spacing ≡ max m 1
-  pub depth_is : st.depth ≡ 1
-  pub edges_are : st.edges ≡ slice_set (replicate 257 0) 1 n
+  pub edges_are : st.edges.items ≡ 0 ∷ n ∷ []
   pub registers_are : st.registers ≡ replicate 16 0
   pub level_is : st.level ≡ 0
   pub no_handlers : records st.handlers ≡ []

@@ -12,7 +12,6 @@ point_of p (x ∷ xs) = point_of x.back xs
 pub record SameButRecords (st ts : State) : Type 0 where
   pub phase_same : ts.phase ≡ st.phase
   pub spacing_same : ts.spacing ≡ st.spacing
-  pub depth_same : ts.depth ≡ st.depth
   pub edges_same : ts.edges ≡ st.edges
   pub registers_same : ts.registers ≡ st.registers
   pub handlers_same : ts.handlers ≡ st.handlers

@@ -6,7 +6,7 @@ use Rattle.refusal.specs.declared.Refusal.{Refusal}
 use Rattle.refusal.specs.declared.Refusal.TheVariants.{NoRow, OtherSize}
 use Rattle.scan.specs.Frames.{Frame, size, top}
 use Rattle.scan.specs.Masks.{held, roots_by}
-use Rattle.frames.specs.Tables.{records}
+use Rattle.frames.specs.Tables.{records, depth}
 use Rattle.frames.specs.Models.{Stage, running, opened, carried, Model, frames, newest}
 use Rattle.frames.specs.Layouts.{layout}
 use Rattle.frames.specs.declared.records.Handler.{Handler}
@@ -69,8 +69,8 @@ pub record Placed (rows : Rows) (ws : List ℕ) (st : State) (s : Model) : Type 
 pub record Laid (ws : List ℕ) (st : State) (s : Model) : Type 0 where
   pub laid : take (top (frames s)) ws ≡ layout s.spacing s.level (frames s)
   pub fits : top (frames s) ≤ length ws
-  pub deep : st.depth ≡ length (frames s)
-  pub edged : (xs fs : List Frame) → frames s ≡ xs ++ fs → slice_index st.edges (length fs) ≡ top fs
+  pub deep : depth st ≡ length (frames s)
+  pub edged : (xs fs : List Frame) → frames s ≡ xs ++ fs → slice_index st.edges.items (length fs) ≡ top fs
 
 -- the handlers, of frames that there are, those of older frames first
 pub record Handled (st : State) (s : Model) : Type 0 where

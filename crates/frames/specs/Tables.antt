@@ -1,10 +1,15 @@
--- Tables of records.
-use Rattle.std.specs.Prelude.{◌≡◌, ℕ, ◌<◌, ◌≤◌, List, [], ◌∷◌, ◌++◌, length, take, slice_index_or}
+-- Tables of records, and how many frames there are.
+use Rattle.std.specs.Prelude.{◌≡◌, ℕ, ◌-◌, ◌<◌, ◌≤◌, List, [], ◌∷◌, ◌++◌, length, slice_index_or}
+use Rattle.frames.specs.declared.state.State.{State}
 use Rattle.frames.specs.declared.table.Table.{Table}
 
 -- the records of a table, the oldest first
 abbrev pub records : {R : Type 0} {n : ℕ} → Table R n → List R
-records t = take t.len t.items
+records t = t.items.items
+
+-- how many frames there are: a state has an edge for each, and one more
+abbrev pub depth : State → ℕ
+depth st = length st.edges.items - 1
 
 -- x is the newest of these records, and ys are the others
 abbrev pub Newest : {R : Type 0} → List R → R → List R → Type 0

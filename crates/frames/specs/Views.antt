@@ -19,6 +19,10 @@ pub record View : Type 0 where
 abbrev pub view : Rows → ℕ → List ℕ → State → View
 view rows count words state = record { rows = rows; count = count; words = words; state = state }
 
+-- the same, by what the map and the memory mean
+abbrev pub seen : {M S : Type 0} → (M → Rows) → (M → ℕ) → (S → List ℕ) → M → S → State → View
+seen rows count words map memory state = view (rows map) (count map) (words memory) state
+
 abbrev pub StandsFor : View → Model → Type 0
 StandsFor v s = Stands v.rows v.words v.state s
 

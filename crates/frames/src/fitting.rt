@@ -8,14 +8,9 @@ use refusal::Refusal;
 pub fn fitting_row<M: FrameMap>(map: &mut M, point: u32, size: usize) -> Result<Row, Refusal>
     ensures { FittingRow (M.rows map.old) (M.rows map.new) (M.count map.old) (M.count map.new) point size result }
 {
-    match map.lookup(point) {
-        None => Err(Refusal::NoRow),
-        Some(row) => {
-            if usize::from(row.size) == size {
-                Ok(row)
-            } else {
-                Err(Refusal::OtherSize)
-            }
-        }
+    let row = map.lookup(point).ok_or(Refusal::NoRow)?;
+    if usize::from(row.size) != size {
+        return Err(Refusal::OtherSize);
     }
+    Ok(row)
 }

@@ -14,8 +14,9 @@ pub fn lay_frame<S: StackMemory>(memory: &mut S, at: u16, size: u8, address: u32
     ensures { 1 ≤ size → at + size ≤ length (S.words memory.old) → S.words memory.new ≡ take at (S.words memory.old) ++ ((address ∷ replicate (size - 1) 0) ++ drop (at + size) (S.words memory.old)) }
 {
     let start = usize::from(at);
-    for i in 0..usize::from(size) {
-        let _ = memory.write(start + i, 0);
+    // A memory takes one word at a time.
+    for place in start..start + usize::from(size) {
+        let _ = memory.write(place, 0);
     }
     let _ = memory.write(start, address);
 }
@@ -31,17 +32,14 @@ pub fn is_marked(state: &State, frame: usize) -> bool
 pub fn return_address<S: StackMemory>(memory: &S, state: &State, frame: usize) -> Option<u32>
     ensures { (rows : Rows) (s : Model) (xs fs : List Frame) (f : Frame) → Kept rows (S.words memory.now) state.now s → frames s ≡ xs ++ (f ∷ fs) → length fs ≡ frame → result ≡ Some f.back }
 {
-    if frame >= state.depth {
+    if frame >= state.depth() {
         return None;
     }
     if is_marked(state, frame) {
-        return match state.markers.get(frame / state.spacing - 1) {
-            Some(marker) => Some(marker.address),
-            None => None,
-        };
+        return state
+            .markers
+            .get(frame / state.spacing - 1)
+            .map(|marker| marker.address);
     }
-    match memory.read(usize::from(state.edges[frame])) {
-        Ok(word) => Some(word),
-        Err(_) => None,
-    }
+    memory.read(usize::from(state.edges[frame])).ok()
 }

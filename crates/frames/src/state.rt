@@ -3,8 +3,9 @@ ghost use Rattle.std.specs.Prelude.{◌≡◌, ◌≤◌, length};
 
 use crate::records::{Handler, Marker, Record};
 use crate::table::Table;
+use arrayvec::ArrayVec;
 
-#[derive(Clone, Copy)]
+#[derive(Clone, Copy, PartialEq, Eq, Debug)]
 pub enum Phase {
     Unstarted,
     // The script runs.
@@ -20,18 +21,16 @@ pub struct State {
     pub phase: Phase,
     // Every so many frames a collection puts a marker.
     pub spacing: usize,
-    // How many frames there are.
-    pub depth: usize,
-    // Where each frame begins in the stack memory, and at `depth` where the next would.
-    pub edges: [u16; 257],
+    // Where each frame begins in the stack memory, and last where the next would.
+    pub edges: ArrayVec<u16, 257>,
     pub registers: [u32; 16],
     pub handlers: Table<Handler, 64>,
     // No frame below this one has run since the last collection was closed.
     pub level: usize,
     pub markers: Table<Marker, 64>,
     pub records: Table<Record, 256>,
-    ghost deep: { depth ≤ 256 },
-    ghost edging: { length edges ≡ 257 },
+    ghost some: { 1 ≤ length edges.items },
+    ghost deep: { length edges.items ≤ 257 },
     ghost sixteen: { length registers ≡ 16 },
     ghost spaced: { 1 ≤ spacing },
 }

@@ -1,11 +1,7 @@
 // A table of at most N records, in the order in which they came.
-ghost use Rattle.std.specs.Prelude.{◌≡◌, ◌≤◌, length};
+use arrayvec::ArrayVec;
 
 #[derive(Drop)]
 pub struct Table<R, const N: usize> {
-    pub items: [R; N],
-    // How many records there are; the items behind them mean nothing.
-    pub len: usize,
-    ghost few: { len ≤ N },
-    ghost whole: { length items ≡ N },
+    pub items: ArrayVec<R, N>,
 }

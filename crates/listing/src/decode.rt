@@ -1,10 +1,21 @@
 // Decoding the frames of a stack, from a given one up to the running one.
-ghost use Rattle.listing.specs.Decoding.{DecodedFrame, HeldAt, DecodedWaiting, Decoded};
+// The map, the memory and the state stay parameters: a struct with a `&mut` to two of them would have each method promise, beside what it does, that both still lead to the same place.
+ghost use Rattle.frames.specs.Views.{seen};
+ghost use Rattle.listing.specs.Decoding.{ScannedFrame, DecodedFrame, HeldAt, DecodedWaiting, Decoded};
 
 use frame_map::{FrameMap, Row};
 use frames::{Record, State, return_address};
-use scan::scan_frame;
+use scan::{Scanned, scan_frame};
 use stack_memory::StackMemory;
+
+// Scans a frame with this row, entered with pointers in the callee-save registers of the mask `held`: adds its record, and answers the mask behind it.
+fn scan_into(state: &mut State, frame: usize, row: &Row, held: u8) -> u8
+    ensures { ScannedFrame state.old state.new frame row.now held result }
+{
+    let Scanned { roots, held } = scan_frame(row, held);
+    let _ = state.records.push(Record { frame, roots, held });
+    held
+}
 
 // Decodes a waiting frame, entered with pointers in the callee-save registers of the mask `held`: adds its record,
 // and answers the mask behind it. Only a machine that is not as it should be has no such frame or row.
@@ -15,20 +26,11 @@ fn decode_waiting<M: FrameMap, S: StackMemory>(
     frame: usize,
     held: u8,
 ) -> Option<u8>
-    ensures { DecodedFrame (M.rows map.old) (M.rows map.new) (M.count map.old) (M.count map.new) (S.words memory.now) state.old state.new frame held result }
+    ensures { let view = seen M.rows M.count S.words in DecodedFrame (view map.old memory.now state.old) (view map.new memory.now state.new) frame held result }
 {
-    match return_address(memory, state, frame.saturating_add(1)) {
-        None => None,
-        Some(point) => match map.lookup(point) {
-            None => None,
-            Some(row) => {
-                let scanned = scan_frame(&row, held);
-                let (roots, held) = (scanned.roots, scanned.held);
-                state.records.push(Record { frame, roots, held });
-                Some(held)
-            }
-        },
-    }
+    let point = return_address(memory, state, frame.saturating_add(1))?;
+    let row = map.lookup(point)?;
+    Some(scan_into(state, frame, &row, held))
 }
 
 // The callee-save registers that hold pointers where frame `from` was entered, by the record of the frame before it.
@@ -38,10 +40,7 @@ fn held_at(state: &State, from: usize) -> Option<u8>
     if from == 0 {
         return Some(0);
     }
-    match state.records.get(from - 1) {
-        Some(record) => Some(record.held),
-        None => None,
-    }
+    state.records.get(from - 1).map(|record| record.held)
 }
 
 // Decodes the waiting frames from `from` on, and answers the mask at the running frame's entry.
@@ -51,17 +50,12 @@ fn decode_all_waiting<M: FrameMap, S: StackMemory>(
     state: &mut State,
     from: usize,
 ) -> Option<u8>
-    ensures { DecodedWaiting (M.rows map.old) (M.rows map.new) (M.count map.old) (M.count map.new) (S.words memory.now) state.old state.new from result }
+    ensures { let view = seen M.rows M.count S.words in DecodedWaiting (view map.old memory.now state.old) (view map.new memory.now state.new) from result }
 {
-    let Some(mut held) = held_at(state, from) else {
-        return None;
-    };
+    let mut held = held_at(state, from)?;
     state.records.truncate(from);
-    for frame in from..state.depth.saturating_sub(1) {
-        match decode_waiting(map, memory, state, frame, held) {
-            Some(behind) => held = behind,
-            None => return None,
-        }
+    for frame in from..state.newest() {
+        held = decode_waiting(map, memory, state, frame, held)?;
     }
     Some(held)
 }
@@ -75,16 +69,9 @@ pub fn decode_from<M: FrameMap, S: StackMemory>(
     from: usize,
     row: &Row,
 ) -> Option<u8>
-    ensures { Decoded (M.rows map.old) (M.rows map.new) (M.count map.old) (M.count map.new) (S.words memory.now) state.old state.new from row.now result }
+    ensures { let view = seen M.rows M.count S.words in Decoded (view map.old memory.now state.old) (view map.new memory.now state.new) from row.now result }
 {
-    match decode_all_waiting(map, memory, state, from) {
-        None => None,
-        Some(entered) => {
-            let scanned = scan_frame(row, entered);
-            let (roots, held) = (scanned.roots, scanned.held);
-            let frame = state.depth.saturating_sub(1);
-            state.records.push(Record { frame, roots, held });
-            Some(held)
-        }
-    }
+    let entered = decode_all_waiting(map, memory, state, from)?;
+    let frame = state.newest();
+    Some(scan_into(state, frame, row, entered))
 }

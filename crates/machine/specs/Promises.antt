@@ -1,18 +1,28 @@
 -- What the calls of a machine promise.
-use Rattle.std.specs.Prelude.{◌≡◌, ℕ, ◌-◌, List, length, Result, MatchResult, slice_index}
+use Rattle.std.specs.Prelude.{◌≡◌, ℕ, ◌+◌, ◌-◌, ◌<◌, ◌≤◌, List, length, Result, MatchResult, slice_index}
 use Rattle.frame_map.specs.Maps.{Rows}
 use Rattle.refusal.specs.Numbers.{number_of}
 use Rattle.refusal.specs.declared.Refusal.{Refusal}
+use Rattle.refusal.specs.declared.Refusal.TheVariants.{OutOfRange}
 use Rattle.frames.specs.Reasons.{First, start_reasons, enter_reasons, leave_reasons, try_reasons, untry_reasons, raise_reasons, slot_reasons, register_reasons}
 use Rattle.frames.specs.Changes.{started, entered, left, tried, untried, raised, with_slot, with_register, top_handler}
-use Rattle.frames.specs.Views.{View, view, Accepted, Promises}
+use Rattle.frames.specs.Views.{View, seen, Accepted, Promises}
+use Rattle.frames.specs.Tables.{depth}
 use Rattle.frames.specs.declared.records.Handler.{Handler}
+use Rattle.frames.specs.declared.state.State.{State}
 use Rattle.machine.specs.declared.machine.Machine.{Machine}
 use Rattle.machine.specs.declared.tokens.Pass.{Pass}
 
 -- a machine as its parts are
 abbrev pub view_of : {M S : Type 0} → (M → Rows) → (M → ℕ) → (S → List ℕ) → Machine M S → View
-view_of rows count words m = view (rows m.map) (count m.map) (words m.memory) m.state
+view_of rows count words m = seen rows count words m.map m.memory m.state
+
+-- the place of a slot of the running frame in the memory, where the frame has that slot
+abbrev pub SlotPlace : State → ℕ → Result ℕ Refusal → Type 0
+SlotPlace st i r =
+    let base = slice_index st.edges.items (depth st - 1) in
+    let top = slice_index st.edges.items (depth st) in
+    MatchResult r (λ place. (place ≡ base + i) × (1 ≤ i) × (base + i < top)) (λ e. (e ≡ OutOfRange) × ((1 ≤ i) × (base + i < top) → ⊥))
 
 -- a start is refused by the first reason that stands and changes nothing; or none stands, and the machine stands for a fresh start
 abbrev pub Starts : View → View → ℕ → ℕ → Result Pass Refusal → Type 0

@@ -1,5 +1,7 @@
 // Slots of the running frame, and registers.
-ghost use Rattle.machine.specs.Promises.{view_of, Gets, Puts, GetsRegister, PutsRegister};
+ghost use Rattle.std.specs.Prelude.{◌≡◌, ◌<◌, MatchResult};
+ghost use Rattle.refusal.specs.declared.Refusal.TheVariants.{OutOfRange};
+ghost use Rattle.machine.specs.Promises.{view_of, SlotPlace, Gets, Puts, GetsRegister, PutsRegister};
 
 use crate::machine::Machine;
 use crate::tokens::Pass;
@@ -9,67 +11,64 @@ use stack_memory::StackMemory;
 
 const REGISTERS: u32 = 16;
 
-impl<M: FrameMap, S: StackMemory> Machine<M, S> {
-    // The word in a slot of the running frame: slots are 1 to its size - 1.
-    pub fn slot(&self, _pass: &Pass, slot: u32) -> Result<u32, Refusal>
-        ensures { Gets (view_of M.rows M.count S.words self.now) (view_of M.rows M.count S.words self.now) slot result }
+// The place of a register among all.
+fn register_place(register: u32) -> Result<usize, Refusal>
+    ensures { MatchResult result (λ place. (place ≡ register) × (register < 16)) (λ e. (e ≡ OutOfRange) × (register < 16 → ⊥)) }
+{
+    if register >= REGISTERS {
+        return Err(Refusal::OutOfRange);
+    }
+    Ok(register as usize)
+}
+
+impl<M, S> Machine<M, S> {
+    // The place of a slot of the running frame in the memory: slots are 1 to its size - 1.
+    fn slot_place(&self, slot: u32) -> Result<usize, Refusal>
+        ensures { SlotPlace self.now.state slot result }
     {
-        if !self.state.is_running() {
-            return Err(Refusal::WrongPhase);
-        }
         let place = usize::from(self.state.base()) + slot as usize;
-        let end = usize::from(self.state.top());
-        if slot < 1 || place >= end {
+        if slot < 1 || place >= usize::from(self.state.top()) {
             return Err(Refusal::OutOfRange);
         }
-        match self.memory.read(place) {
-            Ok(word) => Ok(word),
-            Err(reason) => Err(reason),
-        }
+        Ok(place)
+    }
+}
+
+impl<M: FrameMap, S: StackMemory> Machine<M, S> {
+    // The word in a slot of the running frame.
+    pub fn slot(&self, _pass: &Pass, slot: u32) -> Result<u32, Refusal>
+        ensures { let view = view_of M.rows M.count S.words in Gets (view self.now) (view self.now) slot result }
+    {
+        self.running()?;
+        let place = self.slot_place(slot)?;
+        self.memory.read(place)
     }
 
     // Puts a word into a slot of the running frame.
     pub fn set_slot(&mut self, _pass: &Pass, slot: u32, word: u32) -> Result<(), Refusal>
-        ensures { Puts (view_of M.rows M.count S.words self.old) (view_of M.rows M.count S.words self.new) slot word result }
+        ensures { let view = view_of M.rows M.count S.words in Puts (view self.old) (view self.new) slot word result }
     {
-        if !self.state.is_running() {
-            return Err(Refusal::WrongPhase);
-        }
-        let place = usize::from(self.state.base()) + slot as usize;
-        let end = usize::from(self.state.top());
-        if slot < 1 || place >= end {
-            return Err(Refusal::OutOfRange);
-        }
-        match self.memory.write(place, word) {
-            Ok(()) => Ok(()),
-            Err(reason) => Err(reason),
-        }
+        self.running()?;
+        let place = self.slot_place(slot)?;
+        self.memory.write(place, word)
     }
 
     // The word in a register, r0 to r15.
     pub fn register(&self, _pass: &Pass, register: u32) -> Result<u32, Refusal>
-        ensures { GetsRegister (view_of M.rows M.count S.words self.now) (view_of M.rows M.count S.words self.now) register result }
+        ensures { let view = view_of M.rows M.count S.words in GetsRegister (view self.now) (view self.now) register result }
     {
-        if !self.state.is_running() {
-            return Err(Refusal::WrongPhase);
-        }
-        if register >= REGISTERS {
-            return Err(Refusal::OutOfRange);
-        }
-        Ok(self.state.registers[register as usize])
+        self.running()?;
+        let place = register_place(register)?;
+        Ok(self.state.registers[place])
     }
 
     // Puts a word into a register.
     pub fn set_register(&mut self, _pass: &Pass, register: u32, word: u32) -> Result<(), Refusal>
-        ensures { PutsRegister (view_of M.rows M.count S.words self.old) (view_of M.rows M.count S.words self.new) register word result }
+        ensures { let view = view_of M.rows M.count S.words in PutsRegister (view self.old) (view self.new) register word result }
     {
-        if !self.state.is_running() {
-            return Err(Refusal::WrongPhase);
-        }
-        if register >= REGISTERS {
-            return Err(Refusal::OutOfRange);
-        }
-        self.state.registers[register as usize] = word;
+        self.running()?;
+        let place = register_place(register)?;
+        self.state.registers[place] = word;
         Ok(())
     }
 }

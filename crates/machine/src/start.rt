@@ -4,6 +4,7 @@ ghost use Rattle.frames.specs.declared.state.Phase.TheVariants.{Unstarted};
 ghost use Rattle.machine.specs.Promises.{view_of, Starts};
 
 use crate::machine::Machine;
+use crate::stack::frame_size;
 use crate::tokens::Pass;
 use frame_map::FrameMap;
 use frames::{Phase, State, lay_frame};
@@ -14,8 +15,6 @@ use stack_memory::StackMemory;
 const MIN_SPACING: u32 = 4;
 
 const MAX_SPACING: u32 = 64;
-// A frame has at most this many words.
-const MAX_SIZE: u32 = 32;
 
 impl<M: FrameMap, S: StackMemory> Machine<M, S> {
     // A machine that is not started. It owns its map and its memory.
@@ -30,7 +29,7 @@ impl<M: FrameMap, S: StackMemory> Machine<M, S> {
 
     // Starts the script: one frame of `size` words and the registers, all 0.
     pub fn start(&mut self, spacing: u32, size: u32) -> Result<Pass, Refusal>
-        ensures { Starts (view_of M.rows M.count S.words self.old) (view_of M.rows M.count S.words self.new) spacing size result }
+        ensures { let view = view_of M.rows M.count S.words in Starts (view self.old) (view self.new) spacing size result }
     {
         if self.state.is_started() {
             return Err(Refusal::WrongPhase);
@@ -38,11 +37,12 @@ impl<M: FrameMap, S: StackMemory> Machine<M, S> {
         if spacing < MIN_SPACING || spacing > MAX_SPACING {
             return Err(Refusal::OutsideLimits);
         }
-        if size < 1 || size > MAX_SIZE || size as usize > self.memory.len() {
+        let size = frame_size(size).ok_or(Refusal::OutsideLimits)?;
+        if usize::from(size) > self.memory.len() {
             return Err(Refusal::OutsideLimits);
         }
-        lay_frame(&mut self.memory, 0, size as u8, 0);
-        self.state = State::new(Phase::Running, spacing as usize, size as u16);
+        lay_frame(&mut self.memory, 0, size, 0);
+        self.state = State::new(Phase::Running, spacing as usize, u16::from(size));
         Ok(Pass { collections: 0 })
     }
 }

@@ -1,5 +1,5 @@
 -- The scan's masks have the bits that the rules of roots say.
-use Rattle.std.proofs.Common.{◌≡◌, ℕ, zero, suc, ◌+◌, ◌-◌, ◌*◌, ◌/◌, ◌%◌, ◌^◌, ◌<◌, ◌≤◌, true, false, cond, ◌&&◌, ltb, ◌⊎◌, List, [], Some, None, Option, sym, refl, ap, ◌∙◌, subst, inl, inr, ⊎_elim, mul_assoc, mul_comm, pow-suc, arith}
+use Rattle.std.proofs.Common.{◌≡◌, ℕ, zero, suc, ◌+◌, ◌-◌, ◌*◌, ◌/◌, ◌%◌, ◌^◌, ◌<◌, ◌≤◌, Bool, true, false, MatchBool, cond, ◌&&◌, ltb, ◌⊎◌, List, [], Some, None, Option, sym, refl, ap, ◌∙◌, subst, inl, inr, ⊎_elim, mul_assoc, mul_comm, pow-suc, arith}
 use native.Mathlib.Nat.{add-mul-div_right}
 use lib.Bits.{bit_and}
 use Rattle.std.proofs.lemmas.Nat.{pow_pos, pow-add, shr-shr}
@@ -18,6 +18,11 @@ bit_true m i e = eqb-true (m / 2 ^ i % 2) 1 e
 
 pub true_bit : (m i : ℕ) → Bit m i → bit m i ≡ true
 true_bit m i b = eq-eqb (m / 2 ^ i % 2) 1 b
+
+-- an answered bit is the tested one
+pub tested : (m i : ℕ) (b : Bool) → MatchBool b (Bit m i) (Bit m i → ⊥) → b ≡ bit m i
+tested m i true h = sym (true_bit m i h)
+tested m i false h = elim (cases_Bool (bit m i)) [ inl t ↦ absurd (h (bit_true m i t)) | inr f ↦ sym f ]
 
 -- the saved slots of a lawful row are bits of a mask
 pub low_slot : (r : Row) (k : ℕ) → Lawful r → saved_slot r k < 32

@@ -10,6 +10,7 @@ mod laws;
 
 use frame_map::Row;
 pub use laws::scan_is_exact;
+use words::has_bit;
 
 // A mask has this many bits.
 const MASK_BITS: u32 = 32;
@@ -27,13 +28,7 @@ pub struct Scanned {
 fn saved_bit(slot: u8, holds: bool) -> u32
     ensures { slot < 32 → result ≡ (if holds && nat_lt 0 slot then 2 ^ slot else 0) }
 {
-    if !holds {
-        return 0;
-    }
-    if slot == 0 {
-        return 0;
-    }
-    if u32::from(slot) >= MASK_BITS {
+    if !holds || slot == 0 || u32::from(slot) >= MASK_BITS {
         return 0;
     }
     1 << slot
@@ -44,8 +39,8 @@ fn saved_roots(row: &Row, held: u8) -> u32
     ensures { Lawful row.now → result ≡ saved_mask row.now held 8 }
 {
     let mut roots = 0;
-    for k in 0..8 {
-        roots |= saved_bit(row.saved[k], (held >> k) % 2 == 1);
+    for (k, slot) in row.saved.iter().enumerate() {
+        roots |= saved_bit(*slot, has_bit(u32::from(held), k as u32));
     }
     roots
 }
@@ -98,7 +93,7 @@ pub fn write_codes(out: &mut [u32], at: usize, base: u32, mask: u32, count: u32)
     }
     let mut place = at;
     for i in 0..count {
-        place = write_code(out, place, base + i, (mask >> i) % 2 == 1);
+        place = write_code(out, place, base + i, has_bit(mask, i));
     }
     Some(place)
 }

@@ -1,7 +1,5 @@
-use Rattle.std.proofs.Common.{sym, ap, ◌∙◌}
-use lib.Bits.{bit_or}
-use Rattle.scan.specs.Masks.{saved_mask}
-use Rattle.scan.proofs.MaskLaws.{low_slot}
+use Rattle.std.proofs.Common.{sym}
+use Rattle.scan.proofs.MaskLaws.{low_slot, tested}
 use Rattle.scan.proofs.StackLaws.{saved_more, saved_none}
 use Rattle.scan.proofs.saved_roots.Goals as goal
 
@@ -10,6 +8,8 @@ loop-k-init c l = sym (saved_none c.args.row.now c.args.held)
 
 pub loop-k-preserved : goal.loop-k-preserved
 loop-k-preserved c l =
-    ap (λ m. bit_or m c.saved_bit-roots.result) (c.loop-k.invariant l)
-    ∙ ap (λ m. bit_or (saved_mask c.args.row.now c.args.held c.loop-k.k) m) (c.saved_bit-roots.ensures (low_slot c.args.row.now c.loop-k.k l))
-    ∙ saved_more c.args.row.now c.args.held c.loop-k.k
+    let bit = tested c.from.result c.loop-k.k c.has_bit.result c.has_bit.ensures in
+    let slot = c.saved_bit-roots.ensures (low_slot c.args.row.now c.loop-k.k l) in
+    let more = saved_more c.args.row.now c.args.held c.loop-k.k in
+    let now = c.loop-k.invariant l in
+    rw (now, slot, bit, c.from.ensures) more

@@ -1,10 +1,7 @@
 use Rattle.std.proofs.Common.{[], ◌∷◌, sym, arith, rules}
-use Rattle.std.proofs.lemmas.Bool.{cond-true, cond-false}
-use Rattle.scan.proofs.WritingLaws.{wrote_as, wrote_none, wrote_one}
+use Rattle.std.proofs.lemmas.Bool.{cond-true}
+use Rattle.scan.proofs.WritingLaws.{wrote_as, wrote_one}
 use Rattle.scan.proofs.write_code.Goals as goal
-
-pub returns-then-not-wanted : goal.returns-then-not-wanted
-returns-then-not-wanted c = wrote_as (sym (cond-false c.args.wanted (c.args.code ∷ []) [] (search rules))) (wrote_none c.args.at c.args.out.now (omega arith))
 
 pub returns : goal.returns
 returns c = wrote_as (sym (cond-true c.args.wanted (c.args.code ∷ []) [] (search rules))) (wrote_one c.args.code c.args.at c.args.out.now (omega arith))

@@ -1,4 +1,5 @@
 use Rattle.std.proofs.Common.{sym, arith}
+use Rattle.scan.proofs.MaskLaws.{tested}
 use Rattle.scan.proofs.RootLaws.{length-codes}
 use Rattle.scan.proofs.StackLaws.{codes_more, codes_none}
 use Rattle.scan.proofs.WritingLaws.{wrote_as, wrote_length, wrote_none, wrote_then}
@@ -11,4 +12,7 @@ pub write_code-place-requires : goal.write_code-place-requires
 write_code-place-requires c = omega (arith, c.loop-i.invariant.end, wrote_length c.loop-i.invariant, length-codes c.args.base c.args.mask c.loop-i.i)
 
 pub loop-i-preserved : goal.loop-i-preserved
-loop-i-preserved c = wrote_as (codes_more c.args.base c.args.mask c.loop-i.i) (wrote_then c.loop-i.invariant c.write_code-place.ensures)
+loop-i-preserved c =
+    let bit = tested c.args.mask c.loop-i.i c.has_bit.result c.has_bit.ensures in
+    let wrote = wrote_then c.loop-i.invariant c.write_code-place.ensures in
+    wrote_as (rw bit (codes_more c.args.base c.args.mask c.loop-i.i)) wrote

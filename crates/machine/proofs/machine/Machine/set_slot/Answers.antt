@@ -1,44 +1,27 @@
-use Rattle.std.proofs.Common.{◌≡◌, ◌+◌, ◌<◌, ◌≤◌, set, refl, ap, ◌∙◌, inl, inr, ⊎_elim, arith}
-use Rattle.refusal.specs.declared.Refusal.TheVariants.{WrongPhase, OutOfRange}
-use Rattle.scan.specs.Frames.{size, top}
-use Rattle.scan.proofs.StackLaws.{top-cons}
+use Rattle.std.proofs.Common.{◌≡◌, ◌+◌, set, refl, ap, ◌∙◌, inl, inr, arith}
+use Rattle.std.proofs.lemmas.Result.{MatchResult-weaker}
+use Rattle.refusal.specs.declared.Refusal.TheVariants.{OutOfRange}
+use Rattle.scan.specs.Frames.{top}
 use Rattle.frames.proofs.CallLaws.{slot_written}
-use Rattle.frames.proofs.ViewLaws.{runs, not_running, top_is, base_is, stays}
+use Rattle.frames.proofs.ViewLaws.{handed, runs, slot_at, slot_in, slot_out, slot_there, stopped, stays_as}
 use Rattle.machine.proofs.machine.Machine.set_slot.Goals as goal
 
-pub returns-then-not-is_running : goal.returns-then-not-is_running
-returns-then-not-is_running g c = λ s h. stays _ s _ WrongPhase h refl (inl (refl, not_running _ _ _ s h c.if-not-is_running.ensures))
+pub returns-in_err-running : goal.returns-in_err-running
+returns-in_err-running g c = λ s h. stopped _ _ _ s _ _ h c.from_residual.ensures.1 c.in_err-running.ensures
 
-pub returns-then-slot-lt1 : goal.returns-then-slot-lt1
-returns-then-slot-lt1 g c = λ s h.
-    let end = top_is _ _ _ s h in
-    let begin = base_is _ _ _ s h in
-    let sizes = top-cons s.current s.older in
-    stays _ s _ OutOfRange h refl
-    (inr (
-      runs _ _ _ s h c.if-not-is_running.ensures,
-      inl (
-        refl,
-        λ fair.
-            ⊎_elim (λ (l : c.args.slot < 1). omega (arith, fair.0)) (λ (l : (1 ≤ c.args.slot) × (c.from-end.result ≤ c.from.result + c.args.slot)). omega (arith, fair.1, l.1, c.from.ensures, c.base.ensures, c.from-end.ensures, c.top.ensures)) c.then-slot-lt1.either,
-      ),
-    ))
+pub returns-in_err-place : goal.returns-in_err-place
+returns-in_err-place g c = λ s h.
+    handed _ _ _ _ c.from_residual-in_err-place.ensures.1
+    (stays_as _ s _ _ OutOfRange h c.in_err-place.ensures.0 refl (inr (runs _ _ _ s h c.in_ok-running.ensures, inl (refl, λ fair. c.in_err-place.ensures.1 (fair.0, slot_out _ _ _ s h c.args.slot fair.1)))))
 
-pub returns-in-Ok : goal.returns-in-Ok
-returns-in-Ok g c = λ s h.
-    let end = top_is _ _ _ s h in
-    let begin = base_is _ _ _ s h in
-    let sizes = top-cons s.current s.older in
-    let place : c.from.result + c.args.slot ≡ top s.older + c.args.slot = omega (arith, c.from.ensures, c.base.ensures) in
-    let inside : c.args.slot < size s.current = omega (arith, c.from.ensures, c.base.ensures, c.from-end.ensures, c.top.ensures, c.if-place-end.false) in (
-      slot_written _ s c.args.slot h c.if-not-is_running.ensures (omega arith) inside c.args.word _
-          (c.in-Ok.ensures.words_after ∙ ap (λ k. set (g.S.StackMemory.words c.args.self.now.memory) k c.args.word) place),
+pub returns : goal.returns
+returns g c = λ s h.
+    let place : c.in_ok-place.place ≡ top s.older + c.args.slot = c.in_ok-place.ensures.0 ∙ slot_at _ _ _ s h c.args.slot in
+    let some = c.in_ok-place.ensures.1 in
+    let inside = slot_in _ _ _ s h c.args.slot c.in_ok-place.ensures.2 in
+    MatchResult-weaker c.write.result c.write.ensures
+    (λ _ changed. (
+      slot_written _ s c.args.slot h c.in_ok-running.ensures some inside c.args.word _ (changed.words_after ∙ ap (λ k. set (g.S.StackMemory.words c.args.self.now.memory) k c.args.word) place),
       tt,
-    )
-
-pub returns-in-Err : goal.returns-in-Err
-returns-in-Err g c = λ s h.
-    let end = top_is _ _ _ s h in
-    let fits = h.lies.fits in
-    let past = c.in-Err.ensures.past in
-    absurd (omega (arith, c.from.ensures, c.base.ensures, c.from-end.ensures, c.top.ensures, c.if-place-end.false))
+    ))
+    (λ e none. let past = none.past in let there = slot_there _ _ _ s h c.args.slot inside in absurd (omega arith))
