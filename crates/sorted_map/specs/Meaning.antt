@@ -1,5 +1,5 @@
 -- What a sorted map means.
-use Rattle.std.specs.Prelude.{◌≡◌, ℕ, List, vec_items}
+use Rattle.std.specs.Prelude.{◌≡◌, ℕ, ◌/◌, List, length, vec_items}
 use Rattle.frame_map.specs.Maps.{Rows}
 use Rattle.frame_map.specs.Tables.{row_for}
 use Rattle.frame_map.specs.declared.row.Entry.{Entry}
@@ -18,5 +18,6 @@ count_of m = m.count
 pub record MadeFrom (image : List ℕ) (m : SortedMap) : Type 0 where
   pub entries : List Entry
   pub means : Means image entries
+  pub many : length entries ≡ length (vec_items m.image) / 5
   pub rows : (p : ℕ) → rows_of m p ≡ row_for p entries
   pub fresh : count_of m ≡ 0

@@ -12,4 +12,4 @@ invariant_of-result c =
 pub returns : goal.returns
 returns c =
     let h = subst (λ ws. HasRows ws c.in_ok-check_sorted.field-0) c.as_slice.ensures.value c.in_ok-check_sorted.ensures in
-    record { entries = h.entries; means = h.means; rows = λ p. ap (λ es. row_for p es) (all_is (vec_items c.args.image) h.entries h.means); fresh = refl }
+    record { entries = h.entries; means = h.means; many = omega (arith, means_long (vec_items c.args.image) h.entries h.means); rows = λ p. ap (λ es. row_for p es) (all_is (vec_items c.args.image) h.entries h.means); fresh = refl }
