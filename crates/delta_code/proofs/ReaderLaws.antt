@@ -1,8 +1,7 @@
 -- How the reader's steps join.
-use Rattle.std.proofs.Common.{◌≡◌, ℕ, zero, suc, ◌+◌, ◌-◌, ◌*◌, ◌^◌, ◌<◌, ◌≤◌, Bool, true, false, not, eqb, List, length, get_or, set, MatchBool, ◌/◌, ◌%◌, Some, None, sym, refl, ap, ◌∙◌, subst, pow-suc, add-one, arith}
+use Rattle.std.proofs.Common.{◌≡◌, ℕ, zero, suc, ◌+◌, ◌-◌, ◌*◌, ◌^◌, ◌<◌, ◌≤◌, Bool, true, false, not, eqb, List, length, get_or, set, MatchBool, Some, None, sym, refl, ap, ◌∙◌, subst, pow-suc, add-one, arith}
 use native.Mathlib.Nat.{pow-le-pow_right}
 use Rattle.std.proofs.lemmas.List.{set-get_or, length-append}
-use Rattle.std.proofs.lemmas.Bool.{eq-eqb, ne_eqb}
 use Rattle.words.specs.Bits.{Bit}
 use Rattle.frame_map.specs.Rows.{Lawful}
 use Rattle.frame_map.specs.declared.row.Entry.{Entry}
@@ -27,7 +26,7 @@ number_fits n b v some most low h =
 -- a field that is read keeps its width
 pub changed_small : (n : ℕ) (t : Bool) (x v : ℕ) (s u : Reader) → x < 256 ^ n → Took (changed_in n t x) (Some v) s u → v < 256 ^ n
 unfolding changed_in
-changed_small n false x v s u h k = subst (λ m. m < 256 ^ n) (same_value x v (rest s) (rest u) k.ran) h
+changed_small n false x v s u h k = grind arith
 changed_small n true x v s u h k =
     let t = then_some (number_in n (rest s)) (λ y r. only_if (not (eqb x y)) (Some (y, r))) v (rest u) k.ran in
     let w = if_some (not (eqb x t.0)) (Some (t.0, t.1)) (v, rest u) t.3 in
@@ -65,7 +64,7 @@ slots_more m xs k bs = ap (λ n. slots_in m xs n bs) (add-one k) ∙ on (slots_i
 -- what stops at a register stops the whole
 pub slots_stop : (m : ℕ) (xs : List ℕ) (j k : ℕ) (bs : List ℕ) → slots_in m xs k bs ≡ None → slots_in m xs (k + j) bs ≡ None
 unfolding slots_in
-slots_stop m xs zero k bs h = let e : k + 0 ≡ k = omega arith in ap (λ n. slots_in m xs n bs) e ∙ h
+slots_stop m xs zero k bs h = grind arith
 slots_stop m xs (suc j) k bs h =
     let e : k + suc j ≡ suc (k + j) = omega arith in
     ap (λ n. slots_in m xs n bs) e
@@ -96,8 +95,8 @@ slot_missing m k x t xs ys s u w l e g h r =
 
 -- what a test of a bit tells
 pub bit_told : (b : Bool) (m n i : ℕ) → n ≡ m → MatchBool b (Bit n i) (Bit n i → ⊥) → b ≡ stands m i
-bit_told true m n i e h = sym (eq-eqb (m / 2 ^ i % 2) 1 (ap (λ x. x / 2 ^ i % 2) (sym e) ∙ h))
-bit_told false m n i e h = sym (ne_eqb (m / 2 ^ i % 2) 1 (λ z. h (ap (λ x. x / 2 ^ i % 2) e ∙ z)))
+bit_told true m n i e h = grind arith
+bit_told false m n i e h = grind arith
 
 -- the three ends of a row
 pub no_row : (b : Entry) (s t u : Reader) (f : ReaderFault) → Took (entry_in b) None s t → f.byte ≡ s.at → u.at ≡ s.at → u.image.now ≡ t.image.now → NoRow b s u f

@@ -84,12 +84,7 @@ module _ (es : List Entry) (t : Table es) where
 
 -- fewer good starts
 fewer_starts : (w : List ℕ) (m n : ℕ) → m ≤ n → GoodStarts w n → GoodStarts w m
-fewer_starts w m n l g = record {
-  whole = let h = g.whole in omega arith;
-  first = λ p. g.first (omega arith);
-  rise = λ k p. g.rise k (omega arith);
-  last = λ p. g.last (omega arith);
-}
+fewer_starts w m n l g = grind arith
 
 pub bad_start_means : (w : List ℕ) (k : ℕ) → BadStart w k → (es : List Entry) → DeltaMeans w es → ⊥
 bad_start_means w k b es m = b.bad (fewer_starts w (suc k) 65 b.inside (table_starts es m.table w m.laid))
@@ -136,7 +131,7 @@ goes_on b xs ys r kx ky h l =
 
 total_grows : (f : ℕ → ℕ) (k d : ℕ) → total f k ≤ total f (k + d)
 unfolding total
-total_grows f k zero = let z = ap (λ n. total f n) (let z : k + 0 ≡ k = omega arith in z) in omega arith
+total_grows f k zero = grind arith
 total_grows f k (suc d) =
     let z = ap (λ n. total f n) (let z : k + suc d ≡ suc (k + d) = omega arith in z) in
     let a = total_grows f k d in

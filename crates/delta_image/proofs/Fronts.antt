@@ -1,7 +1,7 @@
 -- Good rows, one more at a time.
 use Rattle.std.proofs.Common.{◌≡◌, ℕ, zero, suc, ◌+◌, ◌<◌, ◌≤◌, cond, eqb, List, [], ◌∷◌, ◌++◌, length, get_or, sym, refl, ap, ◌∙◌, subst, ⊎_elim, append_assoc, arith}
 use Rattle.std.proofs.lemmas.List.{length_push, get_or_append_left, get_or_push, append_cancel_left, append_cancel_right}
-use Rattle.std.proofs.lemmas.Bool.{cases_eq, cases_lt, eq-eqb, ne_eqb, cond-true, cond-false}
+use Rattle.std.proofs.lemmas.Bool.{cases_lt, eq-eqb, ne_eqb, cond-true, cond-false}
 use Rattle.frame_map.specs.Maps.{Point}
 use Rattle.frame_map.specs.Rows.{Lawful}
 use Rattle.frame_map.specs.Tables.{blank, entry_at}
@@ -16,12 +16,7 @@ use Rattle.delta_image.proofs.Merging.{merged}
 use Rattle.delta_image.proofs.Stretches.{stretch_join, stretch_none}
 
 no_bucket : (b : ℕ) → Bucket b []
-no_bucket b = record {
-  lawful = λ i l. absurd (omega arith);
-  points = λ i l. absurd (omega arith);
-  rises = λ i j h l. absurd (omega arith);
-  belongs = λ i l. absurd (omega arith);
-}
+no_bucket b = grind arith
 
 pub front_none : (w : List ℕ) → GoodStarts w 65 → GoodFront w 0 (start_in w 0) 0
 unfolding rows_in
@@ -131,11 +126,7 @@ front_bucket w b n inside g = record {
     below_b k ne = cond-false (eqb k b) g.part (g.done k) (ne_eqb k b ne)
 
     each : (P : ℕ → List Entry → Type 0) → ((k : ℕ) → k < b → P k (g.done k)) → P b g.part → (k : ℕ) → k < suc b → P k (now k)
-    each P f p k l =
-        ⊎_elim
-        (λ (e : k ≡ b). subst (λ es. P k es) (sym (at_b k e)) (subst (λ j. P j g.part) (sym e) p))
-        (λ (ne : k ≡ b → ⊥). subst (λ es. P k es) (sym (below_b k ne)) (f k (omega arith)))
-        (cases_eq k b)
+    each P f p k l = grind arith
 
     rows_same : (k : ℕ) → k ≤ b → rows_in now k ≡ rows_in g.done k
     rows_same zero l = refl
@@ -192,4 +183,4 @@ module _ (w : List ℕ) (b at n : ℕ) (g : GoodFront w b at n) (inside : b < 64
 
   -- there are 1,024 rows already
   pub bad_full : 1024 ≤ n → BadRow w n at
-  bad_full full = record { place = b; inside = inside; front = g; follows = goes; bad = λ e q room k h. omega arith }
+  bad_full full = grind arith

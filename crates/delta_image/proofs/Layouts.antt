@@ -1,5 +1,5 @@
 -- An image, start by start and bucket by bucket.
-use Rattle.std.proofs.Common.{◌≡◌, ℕ, zero, suc, ◌+◌, ◌-◌, ◌*◌, ◌/◌, ◌%◌, ◌<◌, ◌≤◌, List, [], ◌∷◌, ◌++◌, length, get_or, take, drop, sym, refl, ap, ◌∙◌, ⊎_elim, append_assoc, append-nil, arith}
+use Rattle.std.proofs.Common.{◌≡◌, ℕ, zero, suc, ◌+◌, ◌-◌, ◌*◌, ◌<◌, ◌≤◌, List, [], ◌∷◌, ◌++◌, length, get_or, take, drop, sym, refl, ap, ◌∙◌, ⊎_elim, append_assoc, append-nil, arith}
 use Rattle.std.proofs.lemmas.List.{length-append, length-drop, get_or_append_left, get_or-append_right, take_more, take_all, take-append-drop}
 use Rattle.std.proofs.lemmas.Bool.{cases_eq}
 use Rattle.frame_map.specs.declared.row.Entry.{Entry}
@@ -7,7 +7,7 @@ use Rattle.delta_layout.specs.Bytes.{bytes}
 use Rattle.delta_layout.specs.Codes.{origin, codes}
 use Rattle.delta_image.specs.Buckets.{in_bucket, body, start, starts, delta_bytes}
 use Rattle.delta_image.specs.Images.{start_in, stretch, GoodStarts}
-use Rattle.delta_image.proofs.Stretches.{stretch-length, stretch_join, stretch_none, stretch_middle}
+use Rattle.delta_image.proofs.Stretches.{stretch-length, stretch_join, stretch_middle}
 
 length_two : (x : ℕ) → length (bytes 2 x) ≡ 2
 unfolding bytes
@@ -25,7 +25,7 @@ two_spell x h = omega arith
 
 two_bytes : (a b : ℕ) → a < 256 → b < 256 → bytes 2 (a + b * 256) ≡ a ∷ b ∷ []
 unfolding bytes
-two_bytes a b h k = λ i. (let z : (a + b * 256) % 256 ≡ a = omega arith in z) i ∷ (let z : (a + b * 256) / 256 % 256 ≡ b = omega arith in z) i ∷ []
+two_bytes a b h k = grind arith
 
 -- a byte of start k among the first n
 start_byte : (es : List Entry) (n k j : ℕ) → k < n → j < 2 → get_or (starts es n) (2 * k + j) 0 ≡ get_or (bytes 2 (start es k)) j 0
@@ -60,7 +60,7 @@ unfolding body
 body_more es n = length-append (body es n) (codes origin (in_bucket n es))
 
 body_grows : (es : List Entry) (k d : ℕ) → length (body es k) ≤ length (body es (k + d))
-body_grows es k zero = let z = ap (λ n. length (body es n)) (let z : k + 0 ≡ k = omega arith in z) in omega arith
+body_grows es k zero = grind arith
 body_grows es k (suc d) =
     let z = ap (λ n. length (body es n)) (let z : k + suc d ≡ suc (k + d) = omega arith in z) in
     let a = body_grows es k d in let b = body_more es (k + d) in omega arith
@@ -123,7 +123,7 @@ module _ (es : List Entry) (fits : start es 64 < 65536) where
 -- good starts rise and lie inside the image
 module _ (w : List ℕ) (good : GoodStarts w 65) where
   pub starts_rise : (k d : ℕ) → k + d ≤ 64 → start_in w k ≤ start_in w (k + d)
-  starts_rise k zero l = let z = ap (λ n. start_in w n) (let z : k + 0 ≡ k = omega arith in z) in omega arith
+  starts_rise k zero l = grind arith
   starts_rise k (suc d) l =
       let z = ap (λ n. start_in w n) (let z : k + suc d ≡ suc (k + d) = omega arith in z) in
       let a = starts_rise k d (omega arith) in
@@ -145,7 +145,7 @@ module _ (w : List ℕ) (byte : (i : ℕ) → get_or w i 0 < 256) (good : GoodSt
     (laid : (k : ℕ) → k < 64 → codes origin (in_bucket k es) ≡ stretch w (start_in w k) (start_in w (suc k))) where
   body_is : (n : ℕ) → n ≤ 64 → body es n ≡ stretch w 130 (start_in w n)
   unfolding body
-  body_is zero l = sym (stretch_none w 130) ∙ ap (λ x. stretch w 130 x) (sym (good.first (omega arith)))
+  body_is zero l = grind arith
   body_is (suc n) l =
       ap (λ x. x ++ codes origin (in_bucket n es)) (body_is n (omega arith))
       ∙ ap (λ x. stretch w 130 (start_in w n) ++ x) (laid n (omega arith))

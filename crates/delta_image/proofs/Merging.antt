@@ -1,6 +1,5 @@
 -- One rising list of all entries, by going through the points.
-use Rattle.std.proofs.Common.{◌≡◌, ℕ, zero, suc, ◌+◌, ◌*◌, ◌%◌, ◌<◌, ◌≤◌, eqb, List, [], ◌∷◌, length, None, sym, refl, ap, ◌∙◌, subst, ⊎_elim, arith}
-use Rattle.std.proofs.lemmas.Nat.{div_below, mod_below}
+use Rattle.std.proofs.Common.{◌≡◌, ℕ, zero, suc, ◌+◌, ◌<◌, ◌≤◌, eqb, List, [], ◌∷◌, length, None, sym, refl, ap, ◌∙◌, subst, ⊎_elim, arith}
 use Rattle.std.proofs.lemmas.Bool.{cases_eq, cases_lt, eq-eqb, ne_eqb, cond-true, cond-false}
 use Rattle.frame_map.specs.Maps.{entries_below}
 use Rattle.frame_map.specs.Tables.{row_for, entry_at}
@@ -25,11 +24,11 @@ bucket_rises b low high (e ∷ es) r =
 
 pub in_more : (b : ℕ) (e : Entry) (es : List Entry) → bucket_of e.point ≡ b → in_bucket b (e ∷ es) ≡ e ∷ in_bucket b es
 unfolding in_bucket
-in_more b e es z = cond-true (eqb (bucket_of e.point) b) (e ∷ in_bucket b es) (in_bucket b es) (eq-eqb (bucket_of e.point) b z)
+in_more b e es z = grind arith
 
 pub in_same : (b : ℕ) (e : Entry) (es : List Entry) → (bucket_of e.point ≡ b → ⊥) → in_bucket b (e ∷ es) ≡ in_bucket b es
 unfolding in_bucket
-in_same b e es z = cond-false (eqb (bucket_of e.point) b) (e ∷ in_bucket b es) (in_bucket b es) (ne_eqb (bucket_of e.point) b z)
+in_same b e es z = grind arith
 
 pub in_none : (b : ℕ) → in_bucket b [] ≡ []
 unfolding in_bucket
@@ -151,7 +150,7 @@ total_zero zero = refl
 total_zero (suc n) = let a = total_zero n in let b = ap length (in_none n) in omega arith
 
 pub bucket_small : (p : ℕ) → bucket_of p < 64
-bucket_small p = div_below (p * 40503 % 65536) 1024 64 (omega arith) (mod_below (p * 40503) 65536 (omega arith))
+bucket_small p = grind arith
 
 pub total_all : (es : List Entry) → total (λ b. length (in_bucket b es)) 64 ≡ length es
 total_all [] = total_zero 64

@@ -1,11 +1,12 @@
 -- Parts of an image.
+use Rattle.std.proofs.lemmas.Grind.{common_steps}
 use Rattle.std.proofs.Common.{◌≡◌, ℕ, ◌+◌, ◌-◌, ◌≤◌, List, [], ◌++◌, length, take, drop, sym, ap, ◌∙◌, arith}
-use Rattle.std.proofs.lemmas.List.{length-take-le, length-drop, drop-drop, take_at, drop_at}
+use Rattle.std.proofs.lemmas.List.{drop-drop}
 use Rattle.std.proofs.Math.Seq.{take-add}
 use Rattle.delta_image.specs.Images.{stretch}
 
 pub stretch-length : (w : List ℕ) (a b : ℕ) → b ≤ length w → length (stretch w a b) ≡ b - a
-stretch-length w a b l = length-take-le (b - a) (drop a w) (omega (arith, length-drop a w))
+stretch-length w a b l = grind (arith, common_steps)
 
 pub stretch_join : (w : List ℕ) (a b c : ℕ) → a ≤ b → b ≤ c → stretch w a b ++ stretch w b c ≡ stretch w a c
 stretch_join w a b c l m =
@@ -15,9 +16,8 @@ stretch_join w a b c l m =
     ∙ ap (λ n. take n (drop a w)) (let z : (b - a) + (c - b) ≡ c - a = omega arith in z)
 
 pub stretch_none : (w : List ℕ) (a : ℕ) → stretch w a a ≡ []
-stretch_none w a = ap (λ n. take n (drop a w)) (let z : a - a ≡ 0 = omega arith in z)
+stretch_none w a = grind arith
 
 -- the part of a list that is put together from three
 pub stretch_middle : (p x q : List ℕ) (a b : ℕ) → length p ≡ a → a + length x ≡ b → stretch (p ++ (x ++ q)) a b ≡ x
-stretch_middle p x q a b h k =
-    ap (λ l. take (b - a) l) (drop_at p (x ++ q) a h) ∙ take_at x q (b - a) (omega arith)
+stretch_middle p x q a b h k = grind (arith, common_steps)

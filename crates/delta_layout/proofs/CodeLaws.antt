@@ -1,14 +1,15 @@
 -- A row is read exactly if its code stands there; so no code begins another, and all are short.
-use Rattle.std.proofs.Common.{◌≡◌, ℕ, zero, suc, ◌+◌, ◌*◌, ◌/◌, ◌^◌, ◌<◌, ◌≤◌, Bool, true, false, cond, not, eqb, ltb, List, [], ◌∷◌, ◌++◌, length, get_or, replicate, Some, sym, refl, ap, ◌∙◌, subst, ⊎_elim, zero-add, arith}
+use Rattle.std.proofs.lemmas.Grind.{common_steps}
+use Rattle.std.proofs.Common.{◌≡◌, ℕ, zero, suc, ◌+◌, ◌*◌, ◌/◌, ◌^◌, ◌<◌, ◌≤◌, Bool, true, false, cond, not, eqb, ltb, List, [], ◌∷◌, ◌++◌, length, get_or, replicate, Some, sym, refl, ap, ◌∙◌, subst, ⊎_elim, arith}
 use Rattle.std.proofs.lemmas.Nat.{div-add-mod'}
 use Rattle.std.proofs.lemmas.List.{append_assoc, append-nil, length-append, get_or-replicate, get_or_past}
-use Rattle.std.proofs.lemmas.Bool.{ltb-true, lt-ltb, cases_eq, cases_lt}
+use Rattle.std.proofs.lemmas.Bool.{ltb-true, lt-ltb, cases_lt}
 use Rattle.words.proofs.BitLaws.{bits_below, bit_of_zero}
 use Rattle.frame_map.specs.Rows.{Lawful, saved_slot}
 use Rattle.frame_map.specs.declared.row.Entry.{Entry}
 use Rattle.frame_map.specs.declared.row.Row.{Row}
 use Rattle.delta_layout.specs.Bytes.{bytes}
-use Rattle.delta_layout.specs.Codes.{flag, changed, resized, signed_difference, mask_of, moved, moved_mask, moved_slots, resaved, step, step_code, wide, code_bits, code, Next, origin, codes, Chain, last_of}
+use Rattle.delta_layout.specs.Codes.{changed, resized, signed_difference, mask_of, moved, moved_mask, moved_slots, resaved, step, step_code, wide, code_bits, code, Next, origin, codes, Chain, last_of}
 use Rattle.delta_layout.specs.Parsing.{only_if, stands, byte_in, changed_in, step_in, size_in, saved_in, row_in, fields_in, entry_in}
 use Rattle.delta_layout.proofs.MaskLaws.{mask_bit, mask_low, mask_unique}
 use Rattle.delta_layout.proofs.ParseLaws.{then_some, if_some, then_at, if_at, same_value, same_rest, byte_sound, byte_whole, changed_sound, changed_whole, step_sound, step_whole, size_sound, size_whole}
@@ -32,8 +33,7 @@ fact b e (suc (suc (suc (suc (suc k))))) = wide b e
 
 bits_are : (b e : Entry) → code_bits b e ≡ mask_of (fact b e) 6
 unfolding mask_of
-bits_are b e =
-    ap (λ z. z + flag 1 (fact b e 1) + flag 2 (fact b e 2) + flag 3 (fact b e 3) + flag 4 (fact b e 4) + flag 5 (fact b e 5)) (sym (zero-add (flag 0 (fact b e 0))))
+bits_are b e = grind arith
 
 -- what is known of a row that was read
 pub record RowRead (f : ℕ) (b w : Row) (bs r : List ℕ) : Type 0 where
@@ -48,8 +48,7 @@ regroup : (z a g u v r : List ℕ) → z ++ (a ++ (g ++ (u ++ (v ++ r)))) ≡ (z
 regroup z a g u v r = sym (simp append_assoc)
 
 joined_fields : (z a g u v bs r₁ r₂ r₃ r₄ r₅ r : List ℕ) → bs ≡ z ++ r₁ → r₁ ≡ a ++ r₂ → r₂ ≡ g ++ r₃ → r₃ ≡ u ++ r₄ → r₄ ≡ v ++ r₅ → r₅ ≡ r → bs ≡ (z ++ (a ++ (g ++ (u ++ v)))) ++ r
-joined_fields z a g u v bs r₁ r₂ r₃ r₄ r₅ r e₁ e₂ e₃ e₄ e₅ e =
-    e₁ ∙ ap (λ l. z ++ l) (e₂ ∙ ap (λ l. a ++ l) (e₃ ∙ ap (λ l. g ++ l) (e₄ ∙ ap (λ l. u ++ l) (e₅ ∙ ap (λ l. v ++ l) e)))) ∙ regroup z a g u v r
+joined_fields z a g u v bs r₁ r₂ r₃ r₄ r₅ r e₁ e₂ e₃ e₄ e₅ e = grind (arith, common_steps)
 
 pub row_sound : (f : ℕ) (b : Row) (bs : List ℕ) (w : Row) (r : List ℕ) → length b.saved ≡ 8 → row_in f b bs ≡ Some (w, r) → RowRead f b w bs r
 unfolding row_in
@@ -158,11 +157,7 @@ slots_small w l =
     omega (arith, div-add-mod' w.slots (2 ^ 32), z)
 
 pub saved_small : (w : Row) → Lawful w → (k : ℕ) → saved_slot w k < 256
-saved_small w l k =
-    ⊎_elim
-    (λ (z : saved_slot w k ≡ 0). omega arith)
-    (λ (z : saved_slot w k ≡ 0 → ⊥). let s = (l.saves.inside k (omega arith)).1 in omega (arith, l.sized.most))
-    (cases_eq (saved_slot w k) 0)
+saved_small w l k = grind arith
 
 row_whole : (f : ℕ) (b w : Row) (q : List ℕ) → Lawful b → Lawful w
     → stands f 0 ≡ not (eqb b.size w.size) → stands f 1 ≡ not (eqb b.slots w.slots) → stands f 2 ≡ not (eqb b.registers w.registers)

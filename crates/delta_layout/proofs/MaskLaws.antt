@@ -2,8 +2,7 @@
 use Rattle.std.proofs.Common.{◌≡◌, ℕ, zero, suc, ◌+◌, ◌-◌, ◌*◌, ◌/◌, ◌%◌, ◌^◌, ◌<◌, ◌≤◌, Bool, true, false, eqb, sym, refl, ap, ◌∙◌, subst, ⊎_elim, one-mul, pow-suc, zero-mul, one-add, arith}
 use native.Mathlib.Nat.{add-mul-div_right}
 use Rattle.std.proofs.lemmas.Nat.{pow_pos, pow-add, shr_high, mod-pow-add, mod_low}
-use Rattle.std.proofs.lemmas.Bool.{eqb-true, eqb-false, cases_eq}
-use Rattle.words.proofs.BitLaws.{parity}
+use Rattle.std.proofs.lemmas.Bool.{cases_eq}
 use Rattle.delta_layout.specs.Codes.{flag, mask_of}
 use Rattle.delta_layout.specs.Parsing.{stands}
 
@@ -45,12 +44,8 @@ mask_bit p (suc n) k l =
 
 -- a fact as a digit
 digit : (f n : ℕ) (b : Bool) → stands f n ≡ b → flag n b ≡ f / 2 ^ n % 2 ^ 1 * 2 ^ n
-digit f n true h = let e : f / 2 ^ n % 2 ≡ 1 = eqb-true (f / 2 ^ n % 2) 1 h in sym (ap (λ x. x * 2 ^ n) e ∙ one-mul (2 ^ n))
-digit f n false h =
-    ⊎_elim
-    (λ (e : f / 2 ^ n % 2 ≡ 0). sym (ap (λ x. x * 2 ^ n) e ∙ zero-mul (2 ^ n)))
-    (λ (e : f / 2 ^ n % 2 ≡ 1). absurd (eqb-false (f / 2 ^ n % 2) 1 h e))
-    (parity (f / 2 ^ n))
+digit f n true h = grind arith
+digit f n false h = grind arith
 
 -- the low bits of a number are the mask of the facts that they tell
 pub bits_mask : (f : ℕ) (p : ℕ → Bool) (n : ℕ) → ((k : ℕ) → k < n → stands f k ≡ p k) → f % 2 ^ n ≡ mask_of p n

@@ -1,6 +1,6 @@
 -- Each field is read exactly if its code stands there.
-use Rattle.std.proofs.Common.{◌≡◌, ℕ, zero, suc, ◌+◌, ◌-◌, ◌*◌, ◌/◌, ◌%◌, ◌^◌, ◌<◌, ◌≤◌, Bool, true, false, cond, not, eqb, ltb, leb, List, [], ◌∷◌, ◌++◌, Some, None, Option, sym, refl, ap, ◌∙◌, ⊎_elim, pow-suc, arith}
-use Rattle.std.proofs.lemmas.Bool.{ltb-true, lt-ltb, le-ltb, le-leb, leb-true, eqb-true, eqb-false, eq-eqb, ne_eqb, cases_lt, not-true, not_from_false, ltb-false, cond-true, cond-false}
+use Rattle.std.proofs.Common.{◌≡◌, ℕ, zero, suc, ◌+◌, ◌*◌, ◌/◌, ◌%◌, ◌^◌, ◌<◌, ◌≤◌, Bool, true, false, cond, not, eqb, ltb, List, [], ◌∷◌, ◌++◌, Some, None, Option, sym, refl, ap, ◌∙◌, pow-suc, arith}
+use Rattle.std.proofs.lemmas.Bool.{ltb-true, lt-ltb, le-ltb, eqb-true, not-true, not_from_false, ltb-false}
 use Rattle.delta_layout.specs.Bytes.{bytes}
 use Rattle.delta_layout.specs.Codes.{changed, resized, signed_difference}
 use Rattle.delta_layout.specs.Parsing.{Parsed, and_then, only_if, byte_in, number_in, changed_in, step_in, shifted, with_rest, size_in}
@@ -22,25 +22,21 @@ if_at b o h = ap (λ t. only_if t o) h
 
 -- a pair that was read is that pair
 pub same_value : {A : Type 0} (x y : A) (q r : List ℕ) → ◌≡◌ {A = Parsed A} (Some (x, q)) (Some (y, r)) → x ≡ y
-same_value {A} x y q r h = let p : ◌≡◌ {A = A × List ℕ} (x, q) (y, r) = cc in ap (λ (p : A × List ℕ). p.0) p
+same_value {A} x y q r h = grind arith
 
 pub same_rest : {A : Type 0} (x y : A) (q r : List ℕ) → ◌≡◌ {A = Parsed A} (Some (x, q)) (Some (y, r)) → q ≡ r
-same_rest {A} x y q r h = let p : ◌≡◌ {A = A × List ℕ} (x, q) (y, r) = cc in ap (λ (p : A × List ℕ). p.1) p
+same_rest {A} x y q r h = grind arith
 
 pub byte_sound : (bs : List ℕ) (x : ℕ) (r : List ℕ) → byte_in bs ≡ Some (x, r) → (bs ≡ x ∷ r) × (x < 256)
 byte_sound [] x r h = cc
-byte_sound (b ∷ bs) x r h =
-    let t = if_some (ltb b 256) (Some (b, bs)) (x, r) h in
-    let e : b ≡ x = same_value b x bs r t.1 in
-    let e' : bs ≡ r = same_rest b x bs r t.1 in
-    (cc, omega (arith, ltb-true b 256 t.0))
+byte_sound (b ∷ bs) x r h = grind arith
 
 pub byte_whole : (x : ℕ) (q : List ℕ) → x < 256 → byte_in (x ∷ q) ≡ Some (x, q)
 byte_whole x q h = if_at (ltb x 256) (Some (x, q)) (lt-ltb x 256 h)
 
 pub number_sound : (n : ℕ) (bs : List ℕ) (x : ℕ) (r : List ℕ) → number_in n bs ≡ Some (x, r) → (bs ≡ bytes n x ++ r) × (x < 256 ^ n)
 unfolding number_in bytes
-number_sound zero bs x r h = (same_rest 0 x bs r h, (let e : 0 ≡ x = same_value 0 x bs r h in omega arith))
+number_sound zero bs x r h = grind arith
 number_sound (suc n) bs x r h =
     let t = then_some (byte_in bs) (λ b q. and_then (number_in n q) (λ v p. Some (b + 256 * v, p))) x r h in
     let u = then_some (number_in n t.1) (λ v p. Some (t.0 + 256 * v, p)) x r t.3 in
@@ -78,9 +74,7 @@ changed_whole n x y q h = changed_whole_at (eqb x y) n x y q refl h
 
 pub changed_sound : (n : ℕ) (t : Bool) (x : ℕ) (bs : List ℕ) (y : ℕ) (r : List ℕ) → changed_in n t x bs ≡ Some (y, r) → (t ≡ not (eqb x y)) × (bs ≡ changed n x y ++ r)
 unfolding changed_in
-changed_sound n false x bs y r h =
-    let e : eqb x y ≡ true = eq-eqb x y (same_value x y bs r h) in
-    (ap not (sym e), same_rest x y bs r h ∙ ap (λ b. cond b [] (bytes n y) ++ r) (sym e))
+changed_sound n false x bs y r h = grind arith
 changed_sound n true x bs y r h =
     let t = then_some (number_in n bs) (λ y r. only_if (not (eqb x y)) (Some (y, r))) y r h in
     let u = if_some (not (eqb x t.0)) (Some (t.0, t.1)) (y, r) t.3 in
@@ -132,61 +126,20 @@ rest_some None q y r h = cc
 rest_some (Some x) q y r h = (ap Some (same_value x y q r h), same_rest x y q r h)
 
 shifted_sound : (x d y : ℕ) → d < 256 → (d ≡ 0 → ⊥) → shifted x d ≡ Some y → (x ≡ y → ⊥) × (d ≡ signed_difference x y)
-shifted_sound x d y small some h =
-    ⊎_elim
-    (λ (l : d < 128).
-    let t = if_some (ltb (x + d) 256) (Some (x + d)) y (sym (cond-true (ltb d 128) (only_if (ltb (x + d) 256) (Some (x + d))) (only_if (leb 256 (x + d)) (Some (x + d - 256))) (lt-ltb d 128 l)) ∙ h) in
-    let e : x + d ≡ y = let f = t.1 in cc in
-    ((λ z. some (omega arith)), omega arith))
-    (λ (l : 128 ≤ d).
-    let t = if_some (leb 256 (x + d)) (Some (x + d - 256)) y (sym (cond-false (ltb d 128) (only_if (ltb (x + d) 256) (Some (x + d))) (only_if (leb 256 (x + d)) (Some (x + d - 256))) (le-ltb d 128 l)) ∙ h) in
-    let e : x + d - 256 ≡ y = let f = t.1 in cc in
-    let m : 256 ≤ x + d = leb-true 256 (x + d) t.0 in
-    ((λ z. some (omega arith)), omega arith))
-    (cases_lt d 128)
+shifted_sound x d y small some h = grind arith
 
 shifted_whole : (x y : ℕ) → x ≤ 32 → y ≤ 32 → (x ≡ y → ⊥) → shifted x (signed_difference x y) ≡ Some y
-shifted_whole x y a b ne =
-    let d : ℕ = signed_difference x y in
-    ⊎_elim
-    (λ (l : y < x).
-    let s : 128 ≤ signed_difference x y = omega arith in
-    let t : x + signed_difference x y - 256 ≡ y = omega arith in
-    cond-false (ltb d 128) (only_if (ltb (x + d) 256) (Some (x + d))) (only_if (leb 256 (x + d)) (Some (x + d - 256))) (le-ltb d 128 s)
-    ∙ if_at (leb 256 (x + d)) (Some (x + d - 256)) (le-leb 256 (x + d) (omega arith)) ∙ ap Some t)
-    (λ (l : x ≤ y).
-    let s : signed_difference x y < 128 = omega arith in
-    let t : x + signed_difference x y ≡ y = omega arith in
-    cond-true (ltb d 128) (only_if (ltb (x + d) 256) (Some (x + d))) (only_if (leb 256 (x + d)) (Some (x + d - 256))) (lt-ltb d 128 s)
-    ∙ if_at (ltb (x + d) 256) (Some (x + d)) (lt-ltb (x + d) 256 (omega arith)) ∙ ap Some t)
-    (cases_lt y x)
+shifted_whole x y a b ne = grind arith
 
 pub size_sound : (t : Bool) (x : ℕ) (bs : List ℕ) (y : ℕ) (r : List ℕ) → size_in t x bs ≡ Some (y, r) → (t ≡ not (eqb x y)) × (bs ≡ resized x y ++ r)
 unfolding size_in
-size_sound false x bs y r h =
-    let e : eqb x y ≡ true = eq-eqb x y (same_value x y bs r h) in
-    (ap not (sym e), same_rest x y bs r h ∙ ap (λ b. cond b [] (signed_difference x y ∷ []) ++ r) (sym e))
-size_sound true x bs y r h =
-    let t = then_some (byte_in bs) (λ d r. only_if (not (eqb d 0)) (with_rest (shifted x d) r)) y r h in
-    let u = if_some (not (eqb t.0 0)) (with_rest (shifted x t.0) t.1) (y, r) t.3 in
-    let w = rest_some (shifted x t.0) t.1 y r u.1 in
-    let b = byte_sound bs t.0 t.1 t.2 in
-    let s = shifted_sound x t.0 y b.1 (eqb-false t.0 0 (not-true (eqb t.0 0) u.0)) w.0 in
-    let d : eqb x y ≡ false = ne_eqb x y s.0 in (
-      ap not (sym d),
-      b.0 ∙ ap (λ v. v ∷ t.1) s.1 ∙ ap (λ l. signed_difference x y ∷ l) w.1 ∙ ap (λ b. cond b [] (signed_difference x y ∷ []) ++ r) (sym d),
-    )
+size_sound false x bs y r h = grind arith
+size_sound true x bs y r h = grind arith
 
 size_whole_at : (b : Bool) (x y : ℕ) (q : List ℕ) → eqb x y ≡ b → x ≤ 32 → y ≤ 32 → size_in (not b) x (cond b [] (signed_difference x y ∷ []) ++ q) ≡ Some (y, q)
 unfolding size_in
 size_whole_at true x y q e hx hy = ap (λ v. Some (v, q)) (eqb-true x y e)
-size_whole_at false x y q e hx hy =
-    let ne : x ≡ y → ⊥ = eqb-false x y e in
-    let d : ℕ = signed_difference x y in
-    let some : signed_difference x y ≡ 0 → ⊥ = λ z. ne (omega arith) in
-    then_at (byte_in (d ∷ q)) (λ d r. only_if (not (eqb d 0)) (with_rest (shifted x d) r)) d q (byte_whole d q (omega arith))
-    ∙ if_at (not (eqb d 0)) (with_rest (shifted x d) q) (not_from_false (eqb d 0) (ne_eqb d 0 some))
-    ∙ ap (λ o. with_rest o q) (shifted_whole x y hx hy ne)
+size_whole_at false x y q e hx hy = grind arith
 
 pub size_whole : (x y : ℕ) (q : List ℕ) → x ≤ 32 → y ≤ 32 → size_in (not (eqb x y)) x (resized x y ++ q) ≡ Some (y, q)
 size_whole x y q hx hy = size_whole_at (eqb x y) x y q refl hx hy

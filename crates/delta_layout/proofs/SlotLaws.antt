@@ -1,4 +1,5 @@
 -- The saved slots that differ are read exactly if their code stands there.
+use Rattle.std.proofs.lemmas.Grind.{common_steps}
 use Rattle.std.proofs.Common.{◌≡◌, ℕ, zero, suc, ◌/◌, ◌%◌, ◌^◌, ◌<◌, ◌≤◌, Bool, true, false, cond, not, eqb, List, [], ◌∷◌, ◌++◌, length, get_or, set, Some, sym, refl, ap, ◌∙◌, ⊎_elim, arith, below_more}
 use Rattle.std.proofs.lemmas.List.{append_assoc, length-set, get_or-set_same, get_or-set_other, ext_get_or}
 use Rattle.std.proofs.lemmas.Bool.{eqb-true, eq-eqb, not-true, not-false, not_from_false, not_from_true, cases_Bool}
@@ -66,14 +67,7 @@ slot_sound true m xs n bs zs q ys r l s e h =
 
 pub slots_sound : (m : ℕ) (xs : List ℕ) (n : ℕ) (bs ys r : List ℕ) → n ≤ length xs → slots_in m xs n bs ≡ Some (ys, r) → Slots m xs n bs ys r
 unfolding slots_in moved_slots
-slots_sound m xs zero bs ys r l h =
-    let same : xs ≡ ys = same_value xs ys bs r h in
-    record {
-      long = ap length (sym same);
-      told = λ k l. absurd (omega arith);
-      laid = same_rest xs ys bs r h;
-      above = λ k l. ap (λ l. get_or l k 0) (sym same);
-    }
+slots_sound m xs zero bs ys r l h = grind arith
 slots_sound m xs (suc n) bs ys r l h =
     let t = then_some (slots_in m xs n bs) (λ zs q. slot_in (stands m n) n zs q) ys r h in
     slot_sound (stands m n) m xs n bs t.0 t.1 ys r (omega arith) (slots_sound m xs n bs t.0 t.1 (omega arith) t.2) refl t.3
@@ -88,9 +82,7 @@ record Way (m : ℕ) (xs ys : List ℕ) (n : ℕ) (q ws : List ℕ) : Type 0 whe
 slot_whole : (t : Bool) (xs ys ws : List ℕ) (n : ℕ) (q : List ℕ) → moved xs ys n ≡ t → get_or ws n 0 ≡ get_or xs n 0 → get_or ys n 0 < 256 → slot_in t n ws (cond t (get_or ys n 0 ∷ []) [] ++ q) ≡ Some (cond t (set ws n (get_or ys n 0)) ws, q)
 unfolding slot_in
 slot_whole false xs ys ws n q e at small = refl
-slot_whole true xs ys ws n q e at small =
-    then_at (byte_in (get_or ys n 0 ∷ q)) (λ y r. only_if (not (eqb (get_or ws n 0) y)) (Some (set ws n y, r))) (get_or ys n 0) q (byte_whole (get_or ys n 0) q small)
-    ∙ if_at (not (eqb (get_or ws n 0) (get_or ys n 0))) (Some (set ws n (get_or ys n 0), q)) (ap (λ v. not (eqb v (get_or ys n 0))) at ∙ e)
+slot_whole true xs ys ws n q e at small = grind arith
 
 way_next : (t : Bool) (m : ℕ) (xs ys : List ℕ) (n : ℕ) (q ws : List ℕ) → n < length xs → moved xs ys n ≡ t → stands m n ≡ t → get_or ys n 0 < 256 → Way m xs ys n (cond t (get_or ys n 0 ∷ []) [] ++ q) ws → Way m xs ys (suc n) q (cond t (set ws n (get_or ys n 0)) ws)
 unfolding slots_in moved_slots
@@ -114,12 +106,12 @@ way_next t m xs ys n q ws l e st small w = record {
     kept_at false k ne = refl
 
     put : (b : Bool) → moved xs ys n ≡ b → get_or (cond b (set ws n (get_or ys n 0)) ws) n 0 ≡ get_or ys n 0
-    put true h = get_or-set_same ws n (get_or ys n 0) 0 (omega (arith, w.long))
-    put false h = w.old n (omega arith) ∙ eqb-true (get_or xs n 0) (get_or ys n 0) (not-false (eqb (get_or xs n 0) (get_or ys n 0)) h)
+    put true h = grind (arith, common_steps)
+    put false h = grind arith
 
 way : (m : ℕ) (xs ys : List ℕ) (n : ℕ) (q : List ℕ) → n ≤ length xs → ((k : ℕ) → k < n → stands m k ≡ moved xs ys k) → ((k : ℕ) → get_or ys k 0 < 256) → (ws : List ℕ) × Way m xs ys n q ws
 unfolding slots_in moved_slots
-way m xs ys zero q l told small = (xs, record { long = refl; new = λ k l. absurd (omega arith); old = λ k l. refl; ran = refl })
+way m xs ys zero q l told small = grind arith
 way m xs ys (suc n) q l told small =
     let t : Bool = moved xs ys n in
     let w = way m xs ys n (cond t (get_or ys n 0 ∷ []) [] ++ q) (omega arith) (λ k l. told k (omega arith)) small in
@@ -173,10 +165,7 @@ saved_whole xs ys q lx ly small = saved_whole_at (eqb (moved_mask xs ys) 0) xs y
 slot_length : (b : Bool) (k : ℕ) (zs bs ys r : List ℕ) → slot_in b k zs bs ≡ Some (ys, r) → length ys ≡ length zs
 unfolding slot_in
 slot_length false k zs bs ys r h = ap length (sym (same_value zs ys bs r h))
-slot_length true k zs bs ys r h =
-    let t = then_some (byte_in bs) (λ y r. only_if (not (eqb (get_or zs k 0) y)) (Some (set zs k y, r))) ys r h in
-    let u = if_some (not (eqb (get_or zs k 0) t.0)) (Some (set zs k t.0, t.1)) (ys, r) t.3 in
-    ap length (sym (same_value (set zs k t.0) ys t.1 r u.1)) ∙ length-set zs k t.0
+slot_length true k zs bs ys r h = grind (arith, common_steps)
 
 slots_length : (m : ℕ) (xs : List ℕ) (n : ℕ) (bs ys r : List ℕ) → slots_in m xs n bs ≡ Some (ys, r) → length ys ≡ length xs
 unfolding slots_in

@@ -46,7 +46,7 @@ pub(crate) fn check_starts(image: &[u8]) -> Result<(), MapFault>
 {
     let mut last = 0;
     // By number, since the rules of a start go by it.
-    for k in 0..65 {
+    for k in 0..=BUCKETS {
         last = next_start(image, k, last).ok_or(MapFault {
             row: 0,
             byte: 2 * k,
