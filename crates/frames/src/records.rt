@@ -2,21 +2,21 @@
 use crate::rows::Framed;
 
 // A handler of exceptions: a raise to it makes its frame run on at its point.
-#[derive(Clone, Copy, Default)]
+#[derive(Clone, Copy, PartialEq, Eq, Debug, Default)]
 pub struct Handler {
     pub frame: usize,
     pub point: u32,
 }
 
 // A marked frame, and the return address that its marker replaced.
-#[derive(Clone, Copy, Default)]
+#[derive(Clone, Copy, PartialEq, Eq, Debug, Default)]
 pub struct Marker {
     pub frame: usize,
     pub address: u32,
 }
 
 // What a scan learned of a frame: bit i of `roots` tells that slot i is a root, bit k of `held` that r(8 + k) holds a pointer behind the frame.
-#[derive(Clone, Copy, Default)]
+#[derive(Clone, Copy, PartialEq, Eq, Debug, Default)]
 pub struct Record {
     pub frame: usize,
     pub roots: u32,

@@ -16,7 +16,7 @@ use words::has_bit;
 const MASK_BITS: u32 = 32;
 
 // What the scan learns of one frame.
-#[derive(Clone, Copy, Debug)]
+#[derive(Clone, Copy, PartialEq, Eq, Debug)]
 pub struct Scanned {
     // Roots among the frame's slots: bit i stands for slot i.
     pub roots: u32,
@@ -75,20 +75,14 @@ fn write_code(out: &mut [u32], at: usize, code: u32, wanted: bool) -> usize
 }
 
 // Writes base + i for each bit i of the mask below `count`, rising, from place `at` on, and answers the place behind.
-// Nothing is written where `count` words have no room there, a mask has not that many bits, or a word cannot hold that many codes.
+// The buffer is the caller's, since a scan allocates nothing. Nothing is written where `count` words have no room there, a mask has not that many bits, or a word cannot hold that many codes.
 pub fn write_codes(out: &mut [u32], at: usize, base: u32, mask: u32, count: u32) -> Option<usize>
     ensures { MatchOption result (Uncoded base count at out.old out.new) (λ behind. Coded base mask count at out.old out.new behind) }
 {
-    if count > MASK_BITS {
+    if count > MASK_BITS || u64::from(base) + u64::from(count) > 0x1_0000_0000 {
         return None;
     }
-    if u64::from(base) + u64::from(count) > 0x1_0000_0000 {
-        return None;
-    }
-    if at > out.len() {
-        return None;
-    }
-    if out.len() - at < count as usize {
+    if at > out.len() || out.len() - at < count as usize {
         return None;
     }
     let mut place = at;

@@ -23,7 +23,7 @@ returns g c = λ some l.
     let ws = g.S.StackMemory.words c.args.memory.now in
     let a : c.from-start.result ≡ c.args.at = c.from-start.ensures in
     let n : c.loop-place.place - c.from-start.result ≡ c.args.size = omega (arith, c.from.ensures) in
-    let now = c.loop-place.invariant (omega (arith, c.from.ensures, c.from-start.ensures)) ∙ ap (λ k. zeroed ws c.from-start.result k) n ∙ ap (λ k. zeroed ws k c.args.size) a in
+    let now = rw (n, a) at (c.loop-place.invariant (omega (arith, c.from.ensures, c.from-start.ensures))) in
     let long : length (g.S.StackMemory.words c.loop-place.memory) ≡ length ws = ap length now ∙ length_zeroed ws c.args.at c.args.size l in
     written (g.S.StackMemory.words c.loop-place.memory) (g.S.StackMemory.words c.write-2.new.self) c.from-start.result c.args.address c.write-2.result (omega arith) c.write-2.ensures
     ∙ ap (λ k. set (g.S.StackMemory.words c.loop-place.memory) k c.args.address) a
