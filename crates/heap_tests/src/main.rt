@@ -45,17 +45,19 @@ fn step(rt: &HostRuntime, heap: &mut Heap, call: Call) -> io::Result<()> {
     }
 }
 
-// A heap of two buffers.
-fn fresh(rt: &HostRuntime, first: usize, second: usize) -> io::Result<Result<Heap, Refusal>> {
-    let words = vec![in rt.alloc(); 0u32; first]?;
-    let idle = vec![in rt.alloc(); 0u32; second]?;
-    let starts = vec![in rt.alloc(); false; first]?;
-    Ok(Heap::new(words, idle, starts))
+// A word buffer.
+fn zeros(rt: &HostRuntime, count: usize) -> io::Result<Vec<u32>> {
+    Ok(vec![in rt.alloc(); 0; count]?)
+}
+
+// The flags of a heap's words.
+fn flags(rt: &HostRuntime, count: usize) -> io::Result<Vec<bool>> {
+    Ok(vec![in rt.alloc(); false; count]?)
 }
 
 // Plays calls on a new heap.
 fn play(rt: &HostRuntime, first: usize, second: usize, calls: &[Call]) -> io::Result<()> {
-    match fresh(rt, first, second)? {
+    match Heap::new(zeros(rt, first)?, zeros(rt, second)?, flags(rt, first)?) {
         Ok(mut heap) => {
             println!(rt; "heap {first} {second}: capacity {}", heap.capacity())?;
             for call in calls {
@@ -176,7 +178,8 @@ fn main(rt: HostRuntime) -> io::Result<()> {
     play(&rt, 15, 16, &[])?;
     play(&rt, 16_385, 1, &[])?;
     play(&rt, 16, 17, &[])?;
-    match fresh(&rt, 16_384, 16_384)?.and_then(full) {
+    let most = 16_384;
+    match Heap::new(zeros(&rt, most)?, zeros(&rt, most)?, flags(&rt, most)?).and_then(full) {
         Ok(words) => println!(rt; "full heap: {words:?}"),
         Err(reason) => println!(rt; "full heap: refused {}", reason.number()),
     }

@@ -71,33 +71,36 @@ mod tests {
         Ok(())
     }
 
-    // The number of the reason for which these words are no live memory, or 0.
-    fn refused(words: Vec<u32>) -> u8 {
-        LiveMemory::new(words)
-            .err()
-            .map_or(0, |reason| reason.number())
+    // The number of the reason for which these words are no live memory.
+    fn refused(words: Vec<u32>) -> Option<u8> {
+        LiveMemory::new(words).err().map(|reason| reason.number())
     }
 
     #[test]
     fn live_limits(rt: HostRuntime) -> Result<(), Fail> {
-        assert_eq!(rt; refused(vec![in rt.alloc(); 0; 8193]?), 2);
-        assert_eq!(rt; refused(vec![in rt.alloc(); 0; 8192]?), 0);
-        assert_eq!(rt; refused(vec![in rt.alloc()]?), 2);
+        assert_eq!(rt; refused(vec![in rt.alloc(); 0; 8193]?), Some(2));
+        assert_eq!(rt; refused(vec![in rt.alloc(); 0; 8192]?), None);
+        assert_eq!(rt; refused(vec![in rt.alloc()]?), Some(2));
         Ok(())
     }
 
-    // The number of the reason for which an image of so many bytes, with buffers of so many words, is no snapshot, or 0.
-    fn barred(heap: Global, bytes: usize, count: usize, bits: usize) -> Result<u8, AllocError> {
+    // The number of the reason for which an image of so many bytes, with buffers of so many words, is no snapshot.
+    fn barred(
+        heap: Global,
+        bytes: usize,
+        count: usize,
+        bits: usize,
+    ) -> Result<Option<u8>, AllocError> {
         let image = vec![in heap; 0; bytes]?;
         let made = SnapshotMemory::new(image, vec![in heap; 0; count]?, vec![in heap; 0; bits]?);
-        Ok(made.err().map_or(0, |reason| reason.number()))
+        Ok(made.err().map(|reason| reason.number()))
     }
 
     #[test]
     fn snapshot_limits(rt: HostRuntime) -> Result<(), Fail> {
-        assert_eq!(rt; barred(rt.alloc(), 5, 2, 1)?, 2);
-        assert_eq!(rt; barred(rt.alloc(), 132, 32, 2)?, 6);
-        assert_eq!(rt; barred(rt.alloc(), 132, 33, 1)?, 6);
+        assert_eq!(rt; barred(rt.alloc(), 5, 2, 1)?, Some(2));
+        assert_eq!(rt; barred(rt.alloc(), 132, 32, 2)?, Some(6));
+        assert_eq!(rt; barred(rt.alloc(), 132, 33, 1)?, Some(6));
         Ok(())
     }
 }
