@@ -1,6 +1,7 @@
 -- A space stays sound when an object is made and when a field is stored.
-use Rattle.std.proofs.Common.{◌≡◌, ℕ, ◌+◌, ◌<◌, Bool, false, List, length, get_or, set, sym, refl, ap, ◌∙◌, subst, ⊎_elim, arith}
-use Rattle.std.proofs.lemmas.Bool.{cases_eq, both_ways}
+use Rattle.std.proofs.Common.{◌≡◌, ℕ, ◌+◌, ◌<◌, Bool, List, length, get_or, set, sym, ap, ◌∙◌, subst, ⊎_elim, arith}
+use Rattle.std.proofs.lemmas.Grind.{common_steps}
+use Rattle.std.proofs.lemmas.Bool.{cases_eq}
 use Rattle.std.proofs.lemmas.List.{get_or-set_same, get_or-set_other}
 use Rattle.heap_model.specs.Objects.{Space, space, refs_in, plain_in, Start, Pointer, weigh, Tiled, Sound}
 use Rattle.heap_model.proofs.Spaces.{one_object, tiled_kept, Appended, appended_starts, appended_old, tiled_appended}
@@ -44,11 +45,7 @@ module _ (s : Space) (p : Sound s) (i j w : ℕ) (a : Start s i) (l : j < refs_i
     (x : ℕ) (at : x ≡ i + 1 + j) where
   -- a stored field is no header
   pub headers_kept : (k : ℕ) → Start s k → get_or (set s.words x w) k 0 ≡ get_or s.words k 0
-  headers_kept k b =
-      ⊎_elim
-      (λ (e : k ≡ x). absurd (both_ways (get_or s.starts k false) (p.tiled.apart i k (a, omega arith, omega arith)) b.1))
-      (λ (ne : k ≡ x → ⊥). get_or-set_other s.words x k w 0 ne)
-      (cases_eq k x)
+  headers_kept k b = grind (arith, common_steps)
 
   pub sound_stored : x < length s.words → (j < refs_in (get_or s.words i 0) → Pointer s w) → Sound (space (set s.words x w) s.starts s.used)
   sound_stored within good =
@@ -68,7 +65,4 @@ module _ (s : Space) (p : Sound s) (i j w : ℕ) (a : Start s i) (l : j < refs_i
 -- a space with nothing in it
 pub sound_none : (ws : List ℕ) (ms : List Bool) → Sound (space ws ms 0)
 unfolding weigh
-sound_none ws ms =
-    sound_from (space ws ms 0)
-    record { inside = λ i a. absurd (omega (arith, a.0)); apart = λ i k a. absurd (omega (arith, a.0.0)); total = refl; counts = λ i a. absurd (omega (arith, a.0)) }
-    (λ i j a l. absurd (omega (arith, a.0)))
+sound_none ws ms = grind arith

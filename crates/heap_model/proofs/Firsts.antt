@@ -1,6 +1,7 @@
 -- The words of a list in order of first mention.
-use Rattle.std.proofs.Common.{◌≡◌, ℕ, zero, suc, ◌+◌, ◌<◌, ◌≤◌, true, false, ◌||◌, eqb, ◌⊎◌, List, [], ◌∷◌, ◌++◌, length, get_or, fold, sym, refl, ◌∙◌, subst, inl, inr, ⊎_elim, append_assoc, append-nil, arith}
-use Rattle.std.proofs.lemmas.Bool.{cases_eq, cases_lt, cases_order, cases_Bool, or_cases, or_parts, or_from, or_left, or_right, eqb-true, eqb-false, eq-eqb, ne_eqb, true≢false}
+use Rattle.std.proofs.Common.{◌≡◌, ℕ, zero, suc, ◌+◌, ◌<◌, ◌≤◌, true, false, ◌||◌, eqb, ◌⊎◌, List, [], ◌∷◌, ◌++◌, length, get_or, fold, sym, refl, ◌∙◌, subst, ⊎_elim, append_assoc, append-nil, arith}
+use Rattle.std.proofs.lemmas.Grind.{common_steps}
+use Rattle.std.proofs.lemmas.Bool.{cases_eq, cases_lt, cases_Bool, or_cases, or_parts, or_from, or_left, or_right, eqb-true, eqb-false, eq-eqb, ne_eqb, true≢false}
 use Rattle.std.proofs.lemmas.List.{length_push, length-append, get_or_push, get_or_append_left}
 use Rattle.heap_model.specs.Live.{Member, First}
 use Rattle.heap_model.specs.Moving.{has, noted, firsts}
@@ -21,12 +22,10 @@ has_not w (x ∷ xs) h zero l e = eqb-false x w (or_parts (eqb x w) (has w xs) h
 has_not w (x ∷ xs) h (suc n) l e = has_not w xs (or_parts (eqb x w) (has w xs) h).1 n (omega arith) e
 
 pub member_has : (w : ℕ) (xs : List ℕ) → Member w xs → has w xs ≡ true
-member_has w xs m =
-    ⊎_elim (λ (y : has w xs ≡ true). y) (λ (z : has w xs ≡ false). absurd (has_not w xs z m.0 m.1 m.2)) (cases_Bool (has w xs))
+member_has w xs m = grind (arith, has_not)
 
 pub absent_has : (w : ℕ) (xs : List ℕ) → (Member w xs → ⊥) → has w xs ≡ false
-absent_has w xs f =
-    ⊎_elim (λ (y : has w xs ≡ true). absurd (f (has_member w xs y))) (λ (z : has w xs ≡ false). z) (cases_Bool (has w xs))
+absent_has w xs f = grind (arith, has_member)
 
 pub noted_zero : (ps : List ℕ) (w : ℕ) → w ≡ 0 → noted ps w ≡ ps
 unfolding noted
@@ -41,18 +40,10 @@ unfolding noted
 noted_new ps w l f = let t : (eqb w 0 || has w ps) ≡ false = or_from (eqb w 0) (has w ps) (ne_eqb w 0 (λ e. omega arith)) (absent_has w ps f) in rw t
 
 pub first_one : (xs : List ℕ) (w m n : ℕ) → First xs w m → First xs w n → m ≡ n
-first_one xs w m n a b =
-    ⊎_elim
-    (λ (e : m ≡ n). e)
-    (λ (o : (m < n) ⊎ (n < m)). ⊎_elim (λ (l : m < n). absurd (b.2 m l a.1)) (λ (l : n < m). absurd (a.2 n l b.1)) o)
-    (cases_order m n)
+first_one xs w m n a b = grind arith
 
 pub first_front : (xs ys : List ℕ) (w n : ℕ) → First xs w n → First (xs ++ ys) w n
-first_front xs ys w n a = (
-  omega (arith, length-append xs ys, a.0),
-  get_or_append_left xs ys 0 n a.0 ∙ a.1,
-  λ k l e. a.2 k l (sym (get_or_append_left xs ys 0 k (omega (arith, a.0))) ∙ e),
-)
+first_front xs ys w n a = grind (arith, common_steps)
 
 pub member_front : (xs ys : List ℕ) (w : ℕ) → Member w xs → Member w (xs ++ ys)
 member_front xs ys w m = (m.0, omega (arith, length-append xs ys, m.1), get_or_append_left xs ys 0 m.0 m.1 ∙ m.2)
@@ -83,13 +74,7 @@ pub record Ordered (ms ps : List ℕ) : Type 0 where
   pub closed : (w : ℕ) → 0 < w → Member w ms → Member w ps
 
 pub pushed_cases : (xs : List ℕ) (y : ℕ) (w : ℕ) → Member w (xs ++ y ∷ []) → Member w xs ⊎ (y ≡ w)
-pushed_cases xs y w m =
-    ⊎_elim
-    (λ (l : m.0 < length xs). inl (m.0, l, sym (get_or_append_left xs (y ∷ []) 0 m.0 l) ∙ m.2))
-    (λ (g : length xs ≤ m.0).
-    let e : length xs ≡ m.0 = omega (arith, length_push xs y, m.1) in
-    inr (sym (get_or_push xs y 0 m.0 e) ∙ m.2))
-    (cases_lt m.0 (length xs))
+pushed_cases xs y w m = grind (arith, common_steps)
 
 module _ (ms ps : List ℕ) (o : Ordered ms ps) (w : ℕ) where
   -- a mention that adds nothing

@@ -1,6 +1,6 @@
 -- Objects lie without gaps.
 use Rattle.std.proofs.Common.{◌≡◌, ℕ, zero, suc, ◌+◌, ◌<◌, ◌≤◌, Bool, true, false, ◌⊎◌, List, get_or, sym, refl, ap, ◌∙◌, subst, inl, inr, ⊎_elim, arith}
-use Rattle.std.proofs.lemmas.Bool.{cases_eq, cases_lt, cases_order, cases_Bool, both_ways}
+use Rattle.std.proofs.lemmas.Bool.{cases_eq, cases_order, cases_Bool}
 use Rattle.heap_model.specs.Objects.{Space, size_in, Start, weigh, Tiled, Gapless}
 use Rattle.heap_model.proofs.Spaces.{weigh_start}
 
@@ -17,11 +17,7 @@ weigh_skip t ws n z = rw z (omega arith)
 module _ (s : Space) (t : Tiled s) where
   -- an object that begins before another ends before it
   ends_before : (i k : ℕ) → Start s i → Start s k → i < k → end s i ≤ k
-  ends_before i k a b l =
-      ⊎_elim
-      (λ (h : k < end s i). absurd (both_ways (flag s k) (t.apart i k (a, l, h)) b.1))
-      (λ (h : end s i ≤ k). h)
-      (cases_lt k (end s i))
+  ends_before i k a b l = grind arith
 
   -- objects that end by e weigh at most e
   weigh_below : (n e : ℕ) → n ≤ s.used → ((i : ℕ) → Start s i → i < n → end s i ≤ e) → weigh (flag s) s.words n ≤ e

@@ -1,8 +1,9 @@
 -- A listing from the order of first mention, and that there is one listing at most.
-use Rattle.std.proofs.Common.{◌≡◌, ℕ, zero, suc, ◌+◌, ◌-◌, ◌<◌, ◌≤◌, ◌⊎◌, List, [], ◌∷◌, ◌++◌, length, get_or, take, drop, sym, refl, ap, ◌∙◌, subst, inl, inr, ⊎_elim, append_assoc, add-one, arith}
+use Rattle.std.proofs.Common.{◌≡◌, ℕ, zero, suc, ◌+◌, ◌<◌, ◌≤◌, ◌⊎◌, List, [], ◌∷◌, ◌++◌, length, get_or, take, drop, sym, refl, ap, ◌∙◌, subst, ⊎_elim, append_assoc, add-one, arith}
 use Rattle.std.specs.List.{flat_map}
+use Rattle.std.proofs.lemmas.Grind.{common_steps}
 use Rattle.std.proofs.lemmas.Bool.{cases_eq, cases_lt}
-use Rattle.std.proofs.lemmas.List.{take-append-drop, take_more_same, take_all, get_or-take, length-append, get_or_append_left, get_or-append_right, length-take, get_or-append-add}
+use Rattle.std.proofs.lemmas.List.{take-append-drop, take_more_same, take_all, get_or-take, length-append, length-take, get_or-append-add}
 use Rattle.std.proofs.lemmas.Grind.{flat_map-append}
 use Rattle.heap_model.specs.Objects.{Space}
 use Rattle.heap_model.specs.Live.{pointers, mentions, Member, First, Reached, by_root, by_field, Listing}
@@ -78,11 +79,7 @@ one_listing s roots ps qs a b =
 
 -- what stands in two lists stands in one of them
 append_cases : (xs ys : List ℕ) (w : ℕ) → Member w (xs ++ ys) → Member w xs ⊎ Member w ys
-append_cases xs ys w m =
-    ⊎_elim
-    (λ (l : m.0 < length xs). inl (m.0, l, sym (get_or_append_left xs ys 0 m.0 l) ∙ m.2))
-    (λ (g : length xs ≤ m.0). inr (m.0 - length xs, omega (arith, length-append xs ys, m.1), sym (get_or-append_right xs ys (length xs) m.0 0 refl g) ∙ m.2))
-    (cases_lt m.0 (length xs))
+append_cases xs ys w m = grind (arith, common_steps)
 
 pub member_back : (xs ys : List ℕ) (w : ℕ) → Member w ys → Member w (xs ++ ys)
 member_back xs ys w m = (length xs + m.0, omega (arith, length-append xs ys, m.1), get_or-append-add xs ys m.0 0 ∙ m.2)

@@ -1,11 +1,11 @@
 -- The order of the list while roots and fields are forwarded.
-use Rattle.std.proofs.Common.{◌≡◌, ℕ, ◌+◌, ◌-◌, ◌<◌, ◌≤◌, true, false, ◌⊎◌, List, [], ◌∷◌, ◌++◌, length, get_or, take, drop, set, sym, refl, ap, ◌∙◌, subst, inl, inr, ⊎_elim, append_assoc, append-nil, arith}
+use Rattle.std.proofs.Common.{◌≡◌, ℕ, ◌+◌, ◌<◌, ◌≤◌, true, false, ◌⊎◌, List, [], ◌∷◌, ◌++◌, length, get_or, take, drop, set, sym, refl, ap, ◌∙◌, subst, inl, inr, ⊎_elim, append_assoc, append-nil, arith}
 use Rattle.std.specs.List.{flat_map}
 use Rattle.std.proofs.lemmas.Bool.{cases_eq, cases_lt, cases_Bool, cases_order}
 use Rattle.std.proofs.lemmas.List.Sums.{fold_push}
 use Rattle.std.proofs.lemmas.List.{get_or-set_same, get_or-set_other, length-set, length_push, get_or_append_left, get_or_push, take-append-le, take_all, take_more, length-take-le, length-drop, get_or-take, get_or-drop}
-use Rattle.std.proofs.lemmas.Grind.{flat_map-append}
-use Rattle.heap_model.specs.Objects.{Space, refs, size, header, Place, Pointer, Sound}
+use Rattle.std.proofs.lemmas.Grind.{common_steps, flat_map-append}
+use Rattle.heap_model.specs.Objects.{Space, refs, size, header, Pointer, Sound}
 use Rattle.heap_model.specs.Live.{Member, pointers, mentions}
 use Rattle.heap_model.specs.Packing.{span}
 use Rattle.heap_model.specs.Moving.{Buffers, buffers, with_word, has, noted, firsts, base, Renamed, Moving, Early, Rooting, Scanning, Fielding}
@@ -13,7 +13,6 @@ use Rattle.heap_model.proofs.Firsts.{has_member, has_not, noted_zero, noted_had,
 use Rattle.heap_model.proofs.Listings.{member_back, member_joined}
 use Rattle.heap_model.proofs.Spans.{base_more, base_rises, base_ends, one_packed, renamed-push, span_none}
 use Rattle.heap_model.proofs.Copying.{moving_none, moving_on, moving_field}
-use Rattle.heap_model.proofs.Changes.{pointer_at}
 
 -- a mention adds one word at the end or nothing
 pub noted_ways : (ps : List ℕ) (w : ℕ) → (noted ps w ≡ ps) ⊎ ((noted ps w ≡ ps ++ w ∷ []) × (0 < w))
@@ -77,9 +76,7 @@ module _ (s : Space) (p : ℕ) (fits : p + refs s p ≤ length s.words) where
 
 -- the fields of a listed object lie in the words
 pub fields_fit : (s : Space) (buf : Buffers) (scan : ℕ) (ps : List ℕ) → Moving s buf scan ps → (k : ℕ) → k < length ps → get_or ps k 0 + refs s (get_or ps k 0) ≤ length s.words
-fields_fit s buf scan ps m k l =
-    let a : Place s (get_or ps k 0) = m.objects k l in
-    omega (arith, m.long, m.sound.tiled.inside (get_or ps k 0 - 1) a.1, a.0)
+fields_fit s buf scan ps m k l = grind arith
 
 -- the next root word is forwarded
 pub rooting_more : (s : Space) (was roots : List ℕ) (buf : Buffers) (ps : List ℕ) (i : ℕ) → Rooting s was roots buf ps i → i < length was
@@ -208,25 +205,14 @@ module _ (s : Space) (roots : List ℕ) (buf : Buffers) (scan : ℕ) (ps : List 
 
   -- before the end of the copy there is an object to scan
   pub scan_next : scan < buf.copy.used → k < length ps
-  scan_next h =
-      ⊎_elim
-      (λ (l : k < length ps). l)
-      (λ (g : length ps ≤ k).
-      let e : base s ps k ≡ span s ps = ap (λ z. span s z) (take_all k ps g) in
-      let z : ⊥ = omega (arith, e, c.moving.grown, c.at) in absurd z)
-      (cases_lt k (length ps))
+  scan_next h = grind (arith, common_steps)
 
 module _ (s : Space) (roots : List ℕ) (buf : Buffers) (scan : ℕ) (ps : List ℕ) (k j : ℕ) (f : Fielding s roots buf scan ps k j) (l : j < refs s (get_or ps k 0)) where
   pub field_inside : scan < length buf.copy.words
   field_inside = omega (arith, base_ends s ps k f.within, f.moving.grown, f.at, f.moving.words_long, f.moving.room)
 
   pub field_good : Pointer s (get_or buf.copy.words scan 0)
-  field_good =
-      let p : ℕ = get_or ps k 0 in
-      let a : Place s p = f.moving.objects k f.within in
-      let e : get_or buf.copy.words scan 0 ≡ get_or s.words (p + j) 0 = ap (λ x. get_or buf.copy.words x 0) f.at ∙ f.moving.ahead k j f.within l (omega (arith, f.at)) in
-      let q : p - 1 + 1 + j ≡ p + j = omega (arith, a.0) in
-      subst (λ x. Pointer s x) (ap (λ x. get_or s.words x 0) q ∙ sym e) (pointer_at s f.moving.sound (p - 1) j a.1 l)
+  field_good = grind arith
 
 -- no root word is forwarded yet
 pub rooting_none : (s t : Space) (roots : List ℕ) → Sound s → s.used ≤ 16384 → s.used ≤ length s.words → length t.words ≡ length s.words → length t.starts ≡ length s.words → t.used ≡ 0

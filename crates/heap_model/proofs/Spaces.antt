@@ -1,6 +1,6 @@
 -- Laws of spaces: an object appended, headers unchanged, one index in one object.
-use Rattle.std.proofs.Common.{◌≡◌, ℕ, zero, suc, ◌+◌, ◌<◌, ◌≤◌, Bool, true, false, cond, ◌⊎◌, List, get_or, sym, refl, ap, ◌∙◌, subst, inl, inr, ⊎_elim, add-zero, arith}
-use Rattle.std.proofs.lemmas.Bool.{cases_eq, cases_lt, cases_order, cases_Bool, both_ways}
+use Rattle.std.proofs.Common.{◌≡◌, ℕ, zero, suc, ◌+◌, ◌<◌, ◌≤◌, Bool, true, false, cond, ◌⊎◌, List, get_or, sym, refl, ap, ◌∙◌, subst, ⊎_elim, add-zero, arith}
+use Rattle.std.proofs.lemmas.Bool.{cases_eq, cases_Bool}
 use Rattle.heap_model.specs.Objects.{Space, space, refs_in, plain_in, size_in, Start, weigh, Tiled}
 
 -- the same picks and the same headers weigh the same
@@ -50,15 +50,7 @@ weigh_start t ws n h y e = rw (y, e)
 
 -- two objects that share an index are one
 pub one_object : (s : Space) → Tiled s → (i k x : ℕ) → Start s i → Start s k → i ≤ x → x < i + size_in (get_or s.words i 0) → k ≤ x → x < k + size_in (get_or s.words k 0) → i ≡ k
-one_object s t i k x a b il ih kl kh =
-    ⊎_elim
-    (λ (e : i ≡ k). e)
-    (λ (o : (i < k) ⊎ (k < i)).
-    ⊎_elim
-    (λ (l : i < k). absurd (both_ways (get_or s.starts k false) (t.apart i k (a, l, omega arith)) b.1))
-    (λ (l : k < i). absurd (both_ways (get_or s.starts i false) (t.apart k i (b, l, omega arith)) a.1))
-    o)
-    (cases_order i k)
+one_object s t i k x a b il ih kl kh = grind arith
 
 -- the headers below used stay, so the tiling does
 pub tiled_kept : (s : Space) (ws : List ℕ) → Tiled s → ((i : ℕ) → Start s i → get_or ws i 0 ≡ get_or s.words i 0) → Tiled (space ws s.starts s.used)
@@ -84,21 +76,10 @@ pub record Appended (s t : Space) (h : ℕ) : Type 0 where
 module _ (s t : Space) (h : ℕ) (a : Appended s t h) where
   -- the headers are the old ones and the new one
   pub appended_starts : (i : ℕ) → Start t i → Start s i ⊎ (i ≡ s.used)
-  appended_starts i b =
-      ⊎_elim
-      (λ (l : i < s.used). inl (l, sym (a.old i l) ∙ b.1))
-      (λ (g : s.used ≤ i).
-      ⊎_elim
-      (λ (e : i ≡ s.used). inr e)
-      (λ (ne : i ≡ s.used → ⊥). absurd (both_ways (get_or t.starts i false) (a.inner i (omega arith) b.0) b.1))
-      (cases_eq i s.used))
-      (cases_lt i s.used)
+  appended_starts i b = grind arith
 
   pub appended_old : (i : ℕ) → Start s i → Start t i
   appended_old i b = (omega (arith, b.0, a.grown), a.old i b.0 ∙ b.1)
-
-  pub appended_new : Start t s.used
-  appended_new = (omega (arith, a.grown), a.begun)
 
   pub tiled_appended : Tiled s → Tiled t
   tiled_appended p =

@@ -1,7 +1,8 @@
 -- Where packed objects lie, and the renaming.
 use Rattle.std.proofs.Common.{◌≡◌, ℕ, zero, suc, ◌+◌, ◌<◌, ◌≤◌, true, false, eqb, ◌⊎◌, List, [], ◌∷◌, ◌++◌, length, get_or, take, sym, refl, ap, ◌∙◌, subst, inl, inr, ⊎_elim, add_assoc, add-one, arith}
-use Rattle.std.proofs.lemmas.Bool.{cases_eq, cases_lt, cases_order, eq-eqb, ne_eqb}
-use Rattle.std.proofs.lemmas.List.{take-append-le, take_all, take_more, get_or_push, get_or_append_left, length_push}
+use Rattle.std.proofs.lemmas.Grind.{common_steps}
+use Rattle.std.proofs.lemmas.Bool.{cases_eq, cases_order, eq-eqb, ne_eqb}
+use Rattle.std.proofs.lemmas.List.{take-append-le, take_all, take_more, get_or_push, length_push}
 use Rattle.heap_model.specs.Objects.{Space, size}
 use Rattle.heap_model.specs.Live.{Member}
 use Rattle.heap_model.specs.Packing.{span, packed, renamed_from, renamed, Renaming}
@@ -57,31 +58,11 @@ one_packed s ps k n i j kl nl il jl e =
 -- a fact of each place and its packed header, with one object more
 pub push_all : (s : Space) (ps : List ℕ) (p : ℕ) (P : ℕ → ℕ → Type 0) → ((k : ℕ) → k < length ps → P (get_or ps k 0) (base s ps k)) → P p (span s ps)
     → (k : ℕ) → k < length (ps ++ p ∷ []) → P (get_or (ps ++ p ∷ []) k 0) (base s (ps ++ p ∷ []) k)
-push_all s ps p P old new k l =
-    let len : length (ps ++ p ∷ []) ≡ length ps + 1 = length_push ps p in
-    let front : k ≤ length ps → base s (ps ++ p ∷ []) k ≡ base s ps k = λ h. ap (λ z. span s z) (take-append-le k ps (p ∷ []) h) in
-    ⊎_elim
-    (λ (h : k < length ps).
-    subst (λ q. P q (base s (ps ++ p ∷ []) k)) (sym (get_or_append_left ps (p ∷ []) 0 k h)) (subst (λ b. P (get_or ps k 0) b) (sym (front (omega arith))) (old k h)))
-    (λ (h : length ps ≤ k).
-    let e : length ps ≡ k = omega arith in
-    let b : base s (ps ++ p ∷ []) k ≡ span s ps = front (omega arith) ∙ ap (λ z. base s ps z) (sym e) ∙ base_all s ps in
-    subst (λ q. P q (base s (ps ++ p ∷ []) k)) (sym (get_or_push ps p 0 k e)) (subst (λ b. P p b) (sym b) new))
-    (cases_lt k (length ps))
+push_all s ps p P old new k l = grind (arith, common_steps)
 
 -- what was renamed stays so with one object more
 pub renamed-push : (s : Space) (ps : List ℕ) (p w v : ℕ) → Renamed s ps w v → Renamed s (ps ++ p ∷ []) w v
-renamed-push s ps p w v r =
-    ⊎_elim
-    (λ (z : (w ≡ 0) × (v ≡ 0)). inl z)
-    (λ (m : (k : ℕ) × (k < length ps) × (get_or ps k 0 ≡ w) × (v ≡ packed s ps k)).
-    inr (
-      m.0,
-      omega (arith, length_push ps p, m.1),
-      get_or_append_left ps (p ∷ []) 0 m.0 m.1 ∙ m.2,
-      m.3 ∙ ap (λ z. 1 + span s z) (sym (take-append-le m.0 ps (p ∷ []) (omega (arith, m.1)))),
-    ))
-    r
+renamed-push s ps p w v r = grind (arith, common_steps)
 
 pub renamed_last : (s : Space) (ps : List ℕ) (p v : ℕ) → v ≡ 1 + span s ps → Renamed s (ps ++ p ∷ []) p v
 renamed_last s ps p v e =
