@@ -96,7 +96,7 @@ module _ (w : List ℕ) (b : ℕ) (most : b < 64) where
   -- one row more was read
   module _ (n : ℕ) (s t : BucketRows) (e : Entry) (h : Here w b n s) (r : Read w b s t e) where
     split : stretch w s.reader.at (start_in w (suc b)) ≡ code (last_of origin h.front.part) e ++ stretch w t.reader.at (start_in w (suc b))
-    split = r.coded ∙ ap (λ x. code x e ++ stretch w t.reader.at (start_in w (suc b))) h.last
+    split = grind arith
 
     next_last : Next (last_of origin h.front.part) e
     next_last = subst (λ x. Next x e) h.last r.follows
