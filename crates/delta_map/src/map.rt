@@ -7,7 +7,7 @@ ghost use Rattle.delta_image.specs.Buckets.{DeltaMeans};
 #[derive(Drop)]
 pub struct DeltaMap {
     pub(crate) image: Vec<u8>,
-    // How many lookups there were, modulo 2^32.
+    // How many lookups there were, modulo 2^32. Each map counts for itself: a type that counts would need a contract for each of its methods to save one `wrapping_add`.
     pub(crate) count: u32,
     ghost counted: { count < 2 ^ 32 },
     ghost table: { ∥ ((es : List Entry) × DeltaMeans image.items es) ∥₁ },

@@ -45,7 +45,7 @@ pub(crate) fn check_starts(image: &[u8]) -> Result<(), MapFault>
     ensures { MatchResult result (λ _. GoodStarts image.now 65) (λ f. StartFault image.now f.row f.byte) }
 {
     let mut last = 0;
-    // By number, since the rules of a start go by it.
+    // By number: a start that a short image lacks has to be told too, and an iterator over the image's pairs of bytes would end before it.
     for k in 0..=BUCKETS {
         last = next_start(image, k, last).ok_or(MapFault {
             row: 0,

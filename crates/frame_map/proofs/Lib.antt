@@ -5,3 +5,4 @@ pub mod MapLaws
 pub mod Rising
 pub mod RowLaws
 pub mod TableLaws
+pub mod TextLaws

@@ -1,7 +1,6 @@
 -- The line that shows an entry.
 use Rattle.std.specs.Prelude.{ℕ, ◌+◌, ◌/◌, ◌%◌, cond, List, [], ◌∷◌, ◌++◌, codes, decimal, ◌==◌, nat_lt, slice_index}
 use Rattle.frame_map.specs.declared.row.Entry.{Entry}
-use Rattle.frame_map.specs.declared.show.Slot.{Slot}
 use Rattle.frame_map.specs.declared.show.Slots.{Slots}
 
 -- a hexadecimal digit, in lower case
@@ -19,9 +18,6 @@ eight_digits x = byte_text (x / 16777216 % 256) ++ (byte_text (x / 65536 % 256) 
 -- a saved slot, or - for none, behind a space
 abbrev pub slot_word : ℕ → List ℕ
 slot_word s = cond (s == 0) (codes " -") (codes " " ++ decimal s)
-
-abbrev pub slot_text : Slot → List ℕ
-slot_text s = slot_word s.0
 
 -- the saved slots of r8 to r15, put behind one another
 unfoldable pub saved_text : List ℕ → List ℕ

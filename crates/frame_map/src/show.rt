@@ -1,38 +1,25 @@
 // The line that shows an entry.
 ghost use Rattle.std.specs.Prelude.{Some};
-ghost use Rattle.frame_map.specs.Texts.{slot_text, slots_text, entry_text};
+ghost use Rattle.frame_map.specs.Texts.{slots_text, entry_text};
 
 use crate::row::Entry;
 use std::fmt;
 
-// A saved slot behind a space, - for none.
-#[derive(Clone, Copy)]
-struct Slot(u8);
-
-// The saved slots of r8 to r15.
+// The saved slots of r8 to r15, each behind a space, - for none.
 #[derive(Clone, Copy)]
 struct Slots([u8; 8]);
-
-impl fmt::Display for Slot {
-    ghost output = { λ s. Some (slot_text s) };
-
-    fn fmt<W: fmt::Write>(&self, f: &mut fmt::Formatter<W>) -> fmt::Result {
-        let slot = self.0;
-        if slot == 0 {
-            return f.write_str(" -");
-        }
-        write!(f, " {slot}")
-    }
-}
 
 impl fmt::Display for Slots {
     ghost output = { λ s. Some (slots_text s) };
 
     fn fmt<W: fmt::Write>(&self, f: &mut fmt::Formatter<W>) -> fmt::Result {
-        let [a, b, c, d, e, g, h, i] = self.0;
-        let (a, b, c, d) = (Slot(a), Slot(b), Slot(c), Slot(d));
-        let (e, g, h, i) = (Slot(e), Slot(g), Slot(h), Slot(i));
-        write!(f, "{a}{b}{c}{d}{e}{g}{h}{i}")
+        for slot in &self.0 {
+            match slot {
+                0 => f.write_str(" -")?,
+                _ => write!(f, " {slot}")?,
+            }
+        }
+        Ok(())
     }
 }
 

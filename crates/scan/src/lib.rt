@@ -86,6 +86,7 @@ pub fn write_codes(out: &mut [u32], at: usize, base: u32, mask: u32, count: u32)
         return None;
     }
     let mut place = at;
+    // By number: bit i stands for the code base + i.
     for i in 0..count {
         place = write_code(out, place, base + i, has_bit(mask, i));
     }

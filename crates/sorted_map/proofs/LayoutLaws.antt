@@ -1,18 +1,14 @@
 -- The layout of a row and its reading undo one another.
-use Rattle.std.specs.Prelude.{◌≡◌, ℕ, ◌+◌, ◌*◌, ◌/◌, ◌%◌, ◌^◌, ◌<◌, List, [], ◌∷◌, length, slice_index, refl}
+use Rattle.std.specs.Prelude.{◌≡◌, ℕ, ◌+◌, ◌*◌, ◌/◌, ◌%◌, ◌^◌, ◌<◌, [], ◌∷◌}
 use Rattle.std.proofs.Common.{sym, ap, ◌∙◌, ⊎_elim, arith}
 use Rattle.std.proofs.lemmas.Nat.{shr-shr, div-add-mod'}
-use Rattle.std.proofs.lemmas.List.FromFn.{fill_by_all}
 use Rattle.std.proofs.lemmas.Bool.{cases_eq}
 use Rattle.frame_map.specs.Rows.{saved_slot, Lawful}
 use Rattle.frame_map.specs.declared.row.Entry.{Entry}
 use Rattle.frame_map.specs.declared.row.Row.{Row}
+use Rattle.frame_map.proofs.TextLaws.{eight}
 use Rattle.sorted_map.specs.Decoding.{spelled}
 use Rattle.sorted_map.specs.Layout.{saved_word, sorted_row}
-
--- a list of eight, written out
-eight : (xs : List ℕ) → length xs ≡ 8 → xs ≡ slice_index xs 0 ∷ slice_index xs 1 ∷ slice_index xs 2 ∷ slice_index xs 3 ∷ slice_index xs 4 ∷ slice_index xs 5 ∷ slice_index xs 6 ∷ slice_index xs 7 ∷ []
-eight xs h = fill_by_all (λ k. slice_index xs k) xs 8 0 h (λ k l. refl)
 
 -- a saved slot of a lawful row is below 32
 saved_small : (r : Row) → Lawful r → (k : ℕ) → saved_slot r k < 32
