@@ -11,7 +11,7 @@ use arrayvec::ArrayVec;
 use delta_layout::{Field, NARROW_END};
 use frame_map::Entry;
 
-// The code of a row as far as it is made.
+// The code of a row as far as it is made. Each part asks for the room that it takes, and these differ, so no invariant says it for all.
 #[derive(Drop)]
 struct RowCode {
     bytes: ArrayVec<u8, 20>,

@@ -98,10 +98,10 @@ fn read_file(rt: &HostRuntime, name: &str) -> io::Result<Vec<u8>> {
 
 // Prints an image's rows.
 fn show(rt: &HostRuntime, kind: Kind, name: String) -> Result<(), Failure> {
-    let image = match read_file(rt, name.as_str()) {
-        Ok(image) => image,
-        Err(reason) => return Err(Failure::Unreadable { name, reason }),
-    };
+    let image = read_file(rt, name.as_str()).map_err(|reason| Failure::Unreadable {
+        name,
+        reason,
+    })?;
     let text = match kind {
         Kind::Delta => inspect_delta(rt.alloc(), image)?,
         Kind::Sorted => inspect_sorted(rt.alloc(), image.as_slice())?,
