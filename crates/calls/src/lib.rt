@@ -1,7 +1,5 @@
-// The calls on a machine and its heaps, and their answers, as values.
+// The calls on a machine and its heaps, and what accepted ones answer, as values.
 #![tactic(auto)]
-
-use refusal::Refusal;
 
 // One call. Calls on a heap name it by its number; the last four look and alter nothing.
 #[derive(Clone, Copy, Debug)]
@@ -75,7 +73,7 @@ pub enum Call {
     },
 }
 
-// What a call answers.
+// What an accepted call answers; a refused one has a reason and no answer.
 #[derive(Debug, Drop)]
 pub enum Answer {
     // Accepted, with nothing to tell.
@@ -101,5 +99,4 @@ pub enum Answer {
     Words(Vec<u32>),
     // The used words of a heap.
     Objects(Vec<u32>),
-    Refused(Refusal),
 }

@@ -9,7 +9,7 @@ use delta_code::{Reader, ReaderFault};
 use delta_layout::first_before;
 use frame_map::Entry;
 
-// The rows of a bucket that are left to read, and the row before them. No `Iterator`: at a bad row the reader stays, so there would be no end.
+// The rows of a bucket that are left to read, and the row before them. No `Iterator`: the check asks for the byte between rows, which a `for` would keep it from, and the trait's members would say once more what `next_row` ensures.
 #[derive(Drop)]
 pub(crate) struct BucketRows<'a> {
     reader: Reader<'a>,

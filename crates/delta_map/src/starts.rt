@@ -11,7 +11,7 @@ pub const BUCKETS: usize = 64;
 // The rows begin behind 65 starts of two bytes.
 pub const FIRST_START: usize = 130;
 
-// Start `k`: where the rows of bucket `k` begin.
+// Start `k`: where the rows of bucket `k` begin. By index: its callers know that the bytes are there, and a `get` among pairs of bytes would ask them what to do where they are not.
 pub(crate) fn start_at(image: &[u8], k: usize) -> usize
     requires { 2 * k + 2 ≤ length image.now }
     ensures { result ≡ start_in image.now k }

@@ -53,6 +53,7 @@ fn bit_map(before: &Entry, entry: &Entry) -> u8
         + flag_bit(Field::Wide, u32::from(step) > NARROW_END)
 }
 
+// A row and the one before it stay two arguments: each function takes them apart at once.
 impl RowCode {
     // The code of a row against the row before it.
     #[tactic(auto, using(crate::proofs::WriterLaws::part_lengths))]

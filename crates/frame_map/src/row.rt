@@ -36,14 +36,14 @@ impl Row {
     fn has_fair_size(&self) -> bool
         ensures { MatchBool result (Sized self.now) (Sized self.now → ⊥) }
     {
-        self.size >= 1 && self.size <= MAX_SIZE
+        (1..=MAX_SIZE).contains(&self.size)
     }
 
     // Nothing stands at bit 0 or from bit `size` on.
     fn has_fair_slots(&self) -> bool
         ensures { MatchBool result (Slotted self.now) (Slotted self.now → ⊥) }
     {
-        if self.slots % 2 == 1 {
+        if has_bit(self.slots, 0) {
             return false;
         }
         u64::from(self.slots) >> self.size.min(MAX_SIZE) == 0

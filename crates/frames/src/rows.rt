@@ -2,7 +2,7 @@
 ghost use Rattle.std.specs.Prelude.{◌≡◌, ℕ};
 
 // A record that belongs to a frame.
-pub trait Framed: Copy + Default {
+pub trait Framed: Copy {
     // The number of the frame.
     ghost frame: { Self → ℕ };
 

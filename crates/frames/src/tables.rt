@@ -7,7 +7,7 @@ use crate::rows::Framed;
 use crate::table::Table;
 use arrayvec::{ArrayVec, CapacityError};
 
-impl<R: Framed, const N: usize> Table<R, N> {
+impl<R: Framed + Default, const N: usize> Table<R, N> {
     // A table without records.
     pub fn new() -> Table<R, N>
         ensures { records result ≡ [] }

@@ -3,7 +3,7 @@ ghost use Rattle.std.specs.Prelude.{◌≡◌, ◌+◌, ◌<◌, ◌≤◌, leng
 ghost use Rattle.heap_model.specs.Steps.{Written};
 
 // Writes `first` at `at` and `rest` behind it, into `size` entries in all.
-// With words it lays an object whose fields are 0 (`Laid`); with flags it marks an object's header (`Marked`).
+// With words it lays an object whose fields are 0; with flags it marks an object's header.
 // `fill` asks that a clone of `rest` is `rest`, which `Copy` alone does not say.
 pub(crate) fn write_object<T: Copy>(entries: &mut [T], at: usize, size: usize, first: T, rest: T)
     requires fits { (0 < size) × (at + size ≤ length entries.old) }

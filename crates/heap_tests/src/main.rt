@@ -45,19 +45,12 @@ fn step(rt: &HostRuntime, heap: &mut Heap, call: Call) -> io::Result<()> {
     }
 }
 
-// A word buffer.
-fn zeros(rt: &HostRuntime, count: usize) -> io::Result<Vec<u32>> {
-    Ok(vec![in rt.alloc(); 0; count]?)
-}
-
-// The flags of a heap's words.
-fn flags(rt: &HostRuntime, count: usize) -> io::Result<Vec<bool>> {
-    Ok(vec![in rt.alloc(); false; count]?)
-}
-
 // Plays calls on a new heap.
 fn play(rt: &HostRuntime, first: usize, second: usize, calls: &[Call]) -> io::Result<()> {
-    match Heap::new(zeros(rt, first)?, zeros(rt, second)?, flags(rt, first)?) {
+    let words = vec![in rt.alloc(); 0; first]?;
+    let idle = vec![in rt.alloc(); 0; second]?;
+    let starts = vec![in rt.alloc(); false; first]?;
+    match Heap::new(words, idle, starts) {
         Ok(mut heap) => {
             println!(rt; "heap {first} {second}: capacity {}", heap.capacity())?;
             for call in calls {
@@ -178,8 +171,10 @@ fn main(rt: HostRuntime) -> io::Result<()> {
     play(&rt, 15, 16, &[])?;
     play(&rt, 16_385, 1, &[])?;
     play(&rt, 16, 17, &[])?;
-    let most = 16_384;
-    match Heap::new(zeros(&rt, most)?, zeros(&rt, most)?, flags(&rt, most)?).and_then(full) {
+    let words = vec![in rt.alloc(); 0; 16_384]?;
+    let idle = vec![in rt.alloc(); 0; 16_384]?;
+    let starts = vec![in rt.alloc(); false; 16_384]?;
+    match Heap::new(words, idle, starts).and_then(full) {
         Ok(words) => println!(rt; "full heap: {words:?}"),
         Err(reason) => println!(rt; "full heap: refused {}", reason.number()),
     }

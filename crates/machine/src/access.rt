@@ -11,7 +11,7 @@ use stack_memory::StackMemory;
 
 const REGISTERS: u32 = 16;
 
-// The place of a register among all.
+// The place of a register among all. Asked for by number and not by `get_mut`, which says nothing of what the registers end as.
 fn register_place(register: u32) -> Result<usize, Refusal>
     ensures { MatchResult result (λ place. (place ≡ register) × (register < 16)) (λ e. (e ≡ OutOfRange) × (register < 16 → ⊥)) }
 {

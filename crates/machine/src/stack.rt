@@ -14,7 +14,7 @@ use stack_memory::StackMemory;
 pub(crate) fn frame_size(size: u32) -> Option<u8>
     ensures { MatchOption result (FairSize size → ⊥) (λ words. (words ≡ size) × FairSize size) }
 {
-    if size < 1 || size > u32::from(MAX_SIZE) {
+    if !(1..=u32::from(MAX_SIZE)).contains(&size) {
         return None;
     }
     Some(size as u8)

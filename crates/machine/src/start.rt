@@ -34,7 +34,7 @@ impl<M: FrameMap, S: StackMemory> Machine<M, S> {
         if self.state.is_started() {
             return Err(Refusal::WrongPhase);
         }
-        if spacing < MIN_SPACING || spacing > MAX_SPACING {
+        if !(MIN_SPACING..=MAX_SPACING).contains(&spacing) {
             return Err(Refusal::OutsideLimits);
         }
         let size = frame_size(size).ok_or(Refusal::OutsideLimits)?;

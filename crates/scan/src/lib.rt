@@ -12,9 +12,6 @@ use frame_map::Row;
 pub use laws::scan_is_exact;
 use words::has_bit;
 
-// A mask has this many bits.
-const MASK_BITS: u32 = 32;
-
 // What the scan learns of one frame.
 #[derive(Clone, Copy, PartialEq, Eq, Debug)]
 pub struct Scanned {
@@ -28,7 +25,7 @@ pub struct Scanned {
 fn saved_bit(slot: u8, holds: bool) -> u32
     ensures { slot < 32 → result ≡ (if holds && nat_lt 0 slot then 2 ^ slot else 0) }
 {
-    if !holds || slot == 0 || u32::from(slot) >= MASK_BITS {
+    if !holds || slot == 0 || u32::from(slot) >= u32::BITS {
         return 0;
     }
     1 << slot
@@ -62,7 +59,7 @@ pub fn root_registers(row: &Row, held: u8) -> u16
     row.registers % 256 + 256 * u16::from(held)
 }
 
-// Writes a code at place `at` where it is wanted, and answers the place behind.
+// Writes a code at place `at` where it is wanted, and answers the place behind. Both outcomes are one fact, `Wrote`, so the loop has no branch.
 fn write_code(out: &mut [u32], at: usize, code: u32, wanted: bool) -> usize
     requires { at < length out.old }
     ensures { Wrote (if wanted then code ∷ [] else []) at out.old out.new result }
@@ -79,7 +76,7 @@ fn write_code(out: &mut [u32], at: usize, code: u32, wanted: bool) -> usize
 pub fn write_codes(out: &mut [u32], at: usize, base: u32, mask: u32, count: u32) -> Option<usize>
     ensures { MatchOption result (Uncoded base count at out.old out.new) (λ behind. Coded base mask count at out.old out.new behind) }
 {
-    if count > MASK_BITS || u64::from(base) + u64::from(count) > 0x1_0000_0000 {
+    if count > u32::BITS || u64::from(base) + u64::from(count) > 0x1_0000_0000 {
         return None;
     }
     if at > out.len() || out.len() - at < count as usize {

@@ -4,7 +4,7 @@
 use anyhow::bail;
 use frame_map::{FrameMap, entries};
 use refusal::Refused;
-use sorted_map::{ROW_WORDS, SortedMap, check_sorted};
+use sorted_map::{SortedMap, check_sorted};
 
 // Point 20, size 3, r9 saved in slot 1, pointer register r0, r8 untouched.
 const GOOD: [u32; 5] = [1_310_723, 0, 65_537, 256, 0];
@@ -79,10 +79,7 @@ fn ladder(rt: &HostRuntime, rows: u32, first: u32, step: u32) -> anyhow::Result<
     let mut image = Vec::new(rt.alloc());
     for i in 0..rows {
         let point = first.wrapping_add(step.wrapping_mul(i)) % 65_536;
-        image.push(point * 65_536 + 1)?;
-        for _ in 1..ROW_WORDS {
-            image.push(0)?;
-        }
+        image.extend_from_slice(&[point * 65_536 + 1, 0, 0, 0, 0])?;
     }
     Ok(image)
 }

@@ -6,7 +6,7 @@ ghost use Rattle.sorted_map.specs.Decoding.{entries_of};
 use crate::check::{ROW_WORDS, entry_of};
 use frame_map::Row;
 
-// The row of a point. 1,024 rows take at most 11 looks.
+// The row of a point. Of 1,024 rows at most 11 are looked at.
 pub(crate) fn find(rows: &[[u32; ROW_WORDS]], point: u32) -> Option<Row>
     requires { Table (entries_of rows.now) }
     ensures { result ≡ row_for point (entries_of rows.now) }

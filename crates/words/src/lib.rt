@@ -11,7 +11,7 @@ use std::alloc::{AllocError, Global};
 pub fn has_bit(mask: u32, i: u32) -> bool
     ensures { MatchBool result (Bit mask i) (Bit mask i → ⊥) }
 {
-    if i >= 32 {
+    if i >= u32::BITS {
         return false;
     }
     (mask >> i) % 2 == 1

@@ -27,7 +27,7 @@ impl Reader<'_> {
         Some(byte)
     }
 
-    // A number of `bytes` bytes, low byte first. A recursion, since it may stop at each byte; a loop over the bytes is no plainer.
+    // A number of `bytes` bytes, low byte first. A recursion: `get(self.at..)?.get(..n)?` and a fold over these bytes would take as many lines.
     #[tactic(auto, unfolding(delta_layout::specs::Parsing::number_in))]
     fn number(&mut self, bytes: u8) -> Option<u32>
         requires { bytes ≤ 4 }
