@@ -3,9 +3,6 @@ use Rattle.std.proofs.Common.{◌≡◌, ℕ, zero, suc, ◌<◌, ◌≤◌, Lis
 use Rattle.delta_image.specs.Images.{start_in, GoodStarts}
 use Rattle.delta_map.specs.Starting.{NextStart}
 
-pub starts_none : (w : List ℕ) → GoodStarts w 0
-starts_none w = grind arith
-
 -- `last` is the start before start k
 abbrev pub Before : List ℕ → ℕ → ℕ → Type 0
 Before w k last = (j : ℕ) → suc j ≡ k → last ≡ start_in w j

@@ -45,11 +45,21 @@ fn step(rt: &HostRuntime, heap: &mut Heap, call: Call) -> io::Result<()> {
     }
 }
 
-// Plays calls on a new heap.
-fn play(rt: &HostRuntime, first: usize, second: usize, calls: &[Call]) -> io::Result<()> {
+// The buffers of a heap: its words, the idle ones, and a flag for each word.
+fn buffers(
+    rt: &HostRuntime,
+    first: usize,
+    second: usize,
+) -> io::Result<(Vec<u32>, Vec<u32>, Vec<bool>)> {
     let words = vec![in rt.alloc(); 0; first]?;
     let idle = vec![in rt.alloc(); 0; second]?;
     let starts = vec![in rt.alloc(); false; first]?;
+    Ok((words, idle, starts))
+}
+
+// Plays calls on a new heap.
+fn play(rt: &HostRuntime, first: usize, second: usize, calls: &[Call]) -> io::Result<()> {
+    let (words, idle, starts) = buffers(rt, first, second)?;
     match Heap::new(words, idle, starts) {
         Ok(mut heap) => {
             println!(rt; "heap {first} {second}: capacity {}", heap.capacity())?;
@@ -171,9 +181,7 @@ fn main(rt: HostRuntime) -> io::Result<()> {
     play(&rt, 15, 16, &[])?;
     play(&rt, 16_385, 1, &[])?;
     play(&rt, 16, 17, &[])?;
-    let words = vec![in rt.alloc(); 0; 16_384]?;
-    let idle = vec![in rt.alloc(); 0; 16_384]?;
-    let starts = vec![in rt.alloc(); false; 16_384]?;
+    let (words, idle, starts) = buffers(&rt, 16_384, 16_384)?;
     match Heap::new(words, idle, starts).and_then(full) {
         Ok(words) => println!(rt; "full heap: {words:?}"),
         Err(reason) => println!(rt; "full heap: refused {}", reason.number()),

@@ -200,10 +200,6 @@ bad_means ws n b es m =
     let long : length ws ≡ 5 * length es = ap length (sym m.laid) ∙ length_sorted es in
     b.bad (means_good ws es m (n + 1) (omega (arith, b.follows)))
 
--- and a whole image of good rows is that of a table
-pub good_means : (ws : List ℕ) (n : ℕ) (g : GoodRows ws n) → length ws ≡ 5 * n → Means ws g.entries
-good_means ws n g e = record { table = g.table; laid = g.laid ∙ take_all (5 * n) ws (omega arith) }
-
 -- the refusal of an image whose first bad row is known
 pub told : (ws : List ℕ) (e : Refusal) (n : ℕ) → e ≡ BadImage (sorted_fault n) → GoodRows ws n → 5 * n < length ws → (GoodRows ws (n + 1) → ⊥) → RefusedImage ws e
 told ws e n t g l b =
