@@ -314,10 +314,6 @@ unfolding codes
 no_codes b [] h = refl
 no_codes b (e ∷ es) h = absurd (omega (arith, ap length h, length-append (code b e) (codes e es), code-length b e))
 
--- one row more
-pub codes-push : (b : Entry) (es : List Entry) (e : Entry) → codes b (es ++ e ∷ []) ≡ codes b es ++ code (last_of b es) e
-codes-push b es e = codes-append b es (e ∷ []) ∙ ap (λ l. codes b es ++ l) (codes_one (last_of b es) e)
-
 -- rows take 2 to 20 bytes each
 pub codes-length : (b : Entry) (es : List Entry) → (2 * length es ≤ length (codes b es)) × (length (codes b es) ≤ 20 * length es)
 unfolding codes

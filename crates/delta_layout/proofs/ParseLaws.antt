@@ -3,7 +3,7 @@ use Rattle.std.proofs.Common.{◌≡◌, ℕ, zero, suc, ◌+◌, ◌*◌, ◌/�
 use Rattle.std.proofs.lemmas.Bool.{ltb-true, lt-ltb, le-ltb, eqb-true, not-true, not_from_false, ltb-false}
 use Rattle.delta_layout.specs.Bytes.{bytes}
 use Rattle.delta_layout.specs.Codes.{changed, resized, signed_difference}
-use Rattle.delta_layout.specs.Parsing.{Parsed, and_then, only_if, byte_in, number_in, changed_in, step_in, shifted, with_rest, size_in}
+use Rattle.delta_layout.specs.Parsing.{Parsed, and_then, only_if, byte_in, number_in, changed_in, step_in, size_in}
 
 -- what was read before something was read
 pub then_some : {A B : Type 0} (o : Parsed A) (f : A → List ℕ → Parsed B) (v : B) (q : List ℕ) → and_then o f ≡ Some (v, q) → (x : A) × (r : List ℕ) × (o ≡ Some (x, r)) × (f x r ≡ Some (v, q))
@@ -119,17 +119,6 @@ step_whole_at true s q e pos most =
 
 pub step_whole : (s : ℕ) (q : List ℕ) → 0 < s → s < 65536 → step_in (ltb 255 s) (cond (ltb 255 s) (bytes 2 s) (bytes 1 s) ++ q) ≡ Some (s, q)
 step_whole s q pos most = step_whole_at (ltb 255 s) s q refl pos most
-
--- the size
-pub rest_some : (o : Option ℕ) (q : List ℕ) (y : ℕ) (r : List ℕ) → with_rest o q ≡ Some (y, r) → (o ≡ Some y) × (q ≡ r)
-rest_some None q y r h = cc
-rest_some (Some x) q y r h = (ap Some (same_value x y q r h), same_rest x y q r h)
-
-shifted_sound : (x d y : ℕ) → d < 256 → (d ≡ 0 → ⊥) → shifted x d ≡ Some y → (x ≡ y → ⊥) × (d ≡ signed_difference x y)
-shifted_sound x d y small some h = grind arith
-
-shifted_whole : (x y : ℕ) → x ≤ 32 → y ≤ 32 → (x ≡ y → ⊥) → shifted x (signed_difference x y) ≡ Some y
-shifted_whole x y a b ne = grind arith
 
 pub size_sound : (t : Bool) (x : ℕ) (bs : List ℕ) (y : ℕ) (r : List ℕ) → size_in t x bs ≡ Some (y, r) → (t ≡ not (eqb x y)) × (bs ≡ resized x y ++ r)
 unfolding size_in
