@@ -69,6 +69,7 @@ impl Row {
         Some(taken | 1 << slot)
     }
 
+    #[tactic(auto, using(crate::proofs::RowLaws::fair_skip, crate::proofs::RowLaws::fair_take))]
     fn has_fair_saved(&self) -> bool
         requires { self.now.size ≤ 32 }
         ensures { MatchBool result (Saved self.now) (Saved self.now → ⊥) }

@@ -18,6 +18,7 @@ pub fn has_bit(mask: u32, i: u32) -> bool
 }
 
 // Word `index` of an image of bytes, or nothing where the image has no whole word there.
+#[tactic(auto, using(crate::proofs::ByteLaws::piece_spells))]
 pub fn word_at(bytes: &[u8], index: usize) -> Option<u32>
     ensures { MatchOption result (length bytes.now / 4 ≤ index) (λ w. (index < length bytes.now / 4) × (w ≡ word_in bytes.now index)) }
 {
