@@ -6,7 +6,7 @@ mod failure;
 
 use demo::heap_demo;
 use failure::Failure;
-use inspect::{inspect_delta, inspect_sorted};
+use inspect::{Report, inspect_delta, inspect_sorted};
 use refusal::Refused;
 use std::io::Read;
 use std::process::ExitCode;
@@ -96,17 +96,21 @@ fn read_file(rt: &HostRuntime, name: &str) -> io::Result<Vec<u8>> {
     fs::read(rt, name)
 }
 
-// Prints an image's rows.
+// Prints what there is to print of an image.
 fn show(rt: &HostRuntime, kind: Kind, name: String) -> Result<(), Failure> {
     let image = read_file(rt, name.as_str()).map_err(|reason| Failure::Unreadable {
         name,
         reason,
     })?;
-    let text = match kind {
+    let report = match kind {
         Kind::Delta => inspect_delta(rt.alloc(), image)?,
         Kind::Sorted => inspect_sorted(rt.alloc(), image.as_slice())?,
     };
-    Ok(rt.print(text.as_str())?)
+    rt.print(report.text())?;
+    match report {
+        Report::Good(_) => Ok(()),
+        Report::Bad(_) => Err(Failure::BadImage),
+    }
 }
 
 fn run(rt: &HostRuntime) -> Result<(), Failure> {
@@ -117,9 +121,10 @@ fn run(rt: &HostRuntime) -> Result<(), Failure> {
     }
 }
 
-// Prints a refusal, and hands back what is not one.
+// Prints a call's refusal, and hands back what is still to be told.
 fn tell(rt: &HostRuntime, failure: Failure) -> Result<(), Failure> {
     match failure {
+        Failure::BadImage => Ok(()),
         Failure::Refused(reason) => Ok(println!(rt; "{}", Refused(reason))?),
         other => Err(other),
     }

@@ -2,7 +2,7 @@ use Rattle.std.proofs.Common.{string_bytes}
 use Rattle.sorted_map.specs.File.{FileMeans}
 use Rattle.sorted_map.specs.Meaning.{rows_of}
 use Rattle.inspect.proofs.ShowLaws.{shown}
-use Rattle.inspect.proofs.inspect_sorted.Goals as goal
+use Rattle.inspect.proofs.sorted_rows.Goals as goal
 
 pub returns : goal.returns
 returns c =

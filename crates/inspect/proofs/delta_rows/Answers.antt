@@ -2,7 +2,7 @@ use Rattle.std.proofs.Common.{string_bytes}
 use Rattle.delta_image.specs.Buckets.{DeltaMeans}
 use Rattle.delta_map.specs.Meaning.{rows_of}
 use Rattle.inspect.proofs.ShowLaws.{shown}
-use Rattle.inspect.proofs.inspect_delta.Goals as goal
+use Rattle.inspect.proofs.delta_rows.Goals as goal
 
 pub returns : goal.returns
 returns c =
