@@ -86,10 +86,10 @@ module _ (rows : Rows) (ws : List ℕ) (st ts : State) (s : Model) (xs fs : List
     lies = record {
       laid = laid_still;
       fits = let l = h.lies.fits in let e : top (frames s) ≡ top (xs ++ (f ∷ fs)) = ap top parts in let part = top_part xs (f ∷ fs) in omega arith;
-      deep = let n = ap length fell.edges_left ∙ length-take-le (suc (suc (length fs))) st.edges.items (let d = h.lies.deep in let e = deeper in omega arith) in omega arith;
+      deep = let n = ap length fell.edges_left ∙ length-take-le (suc (suc (length fs))) st.edges (let d = h.lies.deep in let e = deeper in omega arith) in omega arith;
       edged = λ ys zs e.
           ap (λ q. get_or q (length zs) 0) fell.edges_left
-          ∙ get_or-take (suc (suc (length fs))) st.edges.items (length zs) 0 (let n = ap length e ∙ length-append ys zs in omega arith)
+          ∙ get_or-take (suc (suc (length fs))) st.edges (length zs) 0 (let n = ap length e ∙ length-append ys zs in omega arith)
           ∙ h.lies.edged (xs ++ ys) zs (part_of ys zs e);
     };
     handled = record {

@@ -89,7 +89,7 @@ module _ (rows : Rows) (ws : List ℕ) (st ts : State) (s : Model) (p n : ℕ) (
       ∙ ap (λ k. drop k ws) (sym new_top)
 
   pub entered_stands : Describes (rows p) (size s.current) → length (frames s) < 256 → SameTables st ts →
-      ts.edges.items ≡ st.edges.items ++ (top (frames s) + n) ∷ [] → Stands rows (laid_at ws (top (frames s)) p n) ts (entered s p n)
+      ts.edges ≡ st.edges ++ (top (frames s) + n) ∷ [] → Stands rows (laid_at ws (top (frames s)) p n) ts (entered s p n)
   entered_stands fits few same edges = record {
     placed = record {
       rows_are = h.placed.rows_are;
@@ -106,7 +106,7 @@ module _ (rows : Rows) (ws : List ℕ) (st ts : State) (s : Model) (p n : ℕ) (
     lies = record {
       laid = new_laid;
       fits = let t = new_top in let l = written_length in omega arith;
-      deep = let n = ap length edges ∙ length_push st.edges.items (top (frames s) + n) in let d = h.lies.deep in omega arith;
+      deep = let n = ap length edges ∙ length_push st.edges (top (frames s) + n) in let d = h.lies.deep in omega arith;
       edged = λ xs fs e. ⊎_elim (λ (all : fs ≡ fresh p n ∷ frames s). edged_all fs all) (λ (part : (zs : List Frame) × (frames s ≡ zs ++ fs)). edged_part part.0 fs part.1) (split_cons (fresh p n) (frames s) xs fs e);
     };
     handled = record {
@@ -126,18 +126,18 @@ module _ (rows : Rows) (ws : List ℕ) (st ts : State) (s : Model) (p n : ℕ) (
     waiting = waiting-cons rows (fresh p n) s.current s.older fits h.waiting;
   }
     where
-      edged_all : (fs : List Frame) → fs ≡ fresh p n ∷ frames s → get_or ts.edges.items (length fs) 0 ≡ top fs
+      edged_all : (fs : List Frame) → fs ≡ fresh p n ∷ frames s → get_or ts.edges (length fs) 0 ≡ top fs
       edged_all fs all =
           let long = ap length all in
           ap (λ q. get_or q (length fs) 0) edges
-          ∙ get_or_push st.edges.items (top (frames s) + n) 0 (length fs) (let d = h.lies.deep in omega arith)
+          ∙ get_or_push st.edges (top (frames s) + n) 0 (length fs) (let d = h.lies.deep in omega arith)
           ∙ sym new_top ∙ ap top (sym all)
 
-      edged_part : (zs fs : List Frame) → frames s ≡ zs ++ fs → get_or ts.edges.items (length fs) 0 ≡ top fs
+      edged_part : (zs fs : List Frame) → frames s ≡ zs ++ fs → get_or ts.edges (length fs) 0 ≡ top fs
       edged_part zs fs e =
           let under : length zs + length fs ≡ depth st = sym (length-append zs fs) ∙ ap length (sym e) ∙ sym h.lies.deep in
           ap (λ q. get_or q (length fs) 0) edges
-          ∙ get_or_append_left st.edges.items ((top (frames s) + n) ∷ []) 0 (length fs) (let some = st.some in omega arith)
+          ∙ get_or_append_left st.edges ((top (frames s) + n) ∷ []) 0 (length fs) (let some = st.some in omega arith)
           ∙ h.lies.edged zs fs e
 
       marks : (xs fs : List Frame) (f : Frame) (k : ℕ) → fresh p n ∷ frames s ≡ xs ++ (f ∷ fs) → length fs ≡ suc k * s.spacing → length fs ≤ s.level →
@@ -159,7 +159,7 @@ module _ (rows : Rows) (ws : List ℕ) (st ts : State) (s : Model) (p n : ℕ) (
 -- an enter that is accepted
 pub enter_accepted : (v : View) (rows : Rows) (count : ℕ) (ws : List ℕ) (ts : State) (s : Model) (p n m : ℕ) (row : Row) → StandsFor v s → v.state.phase ≡ Running →
     1 ≤ n → n ≤ 32 → depth v.state < 256 → top (frames s) + n ≤ length v.words → m ≡ size s.current → (v.rows p ≡ Some row) × (row.size ≡ m) → rows ≡ v.rows → count ≡ (v.count + 1) % 2 ^ 32 →
-    ws ≡ laid_at v.words (top (frames s)) p n → SameTables v.state ts → ts.edges.items ≡ v.state.edges.items ++ (top (frames s) + n) ∷ [] →
+    ws ≡ laid_at v.words (top (frames s)) p n → SameTables v.state ts → ts.edges ≡ v.state.edges ++ (top (frames s) + n) ∷ [] →
     Accepted v (view rows count ws ts) (enter_reasons s p n) 1 (entered s p n)
 enter_accepted v rows count ws ts s p n m row h on some most shallow fits sized found same counted words tables edges = record {
   clear = (

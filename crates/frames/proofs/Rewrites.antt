@@ -45,8 +45,8 @@ handlers_stand rows ws st ts s hs h same are inside ordered = record {
   lies = record {
     laid = h.lies.laid;
     fits = h.lies.fits;
-    deep = ap (λ e. length e.items - 1) same.edges_same ∙ h.lies.deep;
-    edged = λ xs fs e. ap (λ q. get_or q.items (length fs) 0) same.edges_same ∙ h.lies.edged xs fs e;
+    deep = ap (λ e. length e - 1) same.edges_same ∙ h.lies.deep;
+    edged = λ xs fs e. ap (λ q. get_or q (length fs) 0) same.edges_same ∙ h.lies.edged xs fs e;
   };
   handled = record { handlers_are = are; inside = inside; ordered = ordered };
   marked = record {
@@ -131,11 +131,11 @@ module _ (rows : Rows) (ws vs : List ℕ) (st ts : State) (s : Model) (g : Frame
               let n : length vs ≡ length fs = alike_length vs fs a.2.2 in
               ap (λ k. get_or (records st.records) k no_record) (sym n) ∙ h.recorded.known us vs u v e' (omega arith) ∙ record_as rows u.back f.back v e vs fs a.0 a.2
 
-  edges : (xs fs : List Frame) → g ∷ gs ≡ xs ++ fs → get_or ts.edges.items (length fs) 0 ≡ top fs
+  edges : (xs fs : List Frame) → g ∷ gs ≡ xs ++ fs → get_or ts.edges (length fs) 0 ≡ top fs
   edges xs fs e =
       let part = alike_part (frames s) (g ∷ gs) xs fs alike e in
-      ap (λ q. get_or q.items (length fs) 0) same.edges_same
-      ∙ ap (λ k. get_or st.edges.items k 0) (sym (alike_length part.1 fs part.3))
+      ap (λ q. get_or q (length fs) 0) same.edges_same
+      ∙ ap (λ k. get_or st.edges k 0) (sym (alike_length part.1 fs part.3))
       ∙ h.lies.edged part.0 part.1 part.2
       ∙ alike_top part.1 fs part.3
 
@@ -156,7 +156,7 @@ module _ (rows : Rows) (ws vs : List ℕ) (st ts : State) (s : Model) (g : Frame
     lies = record {
       laid = laid;
       fits = let l = h.lies.fits in let t = same_top in omega arith;
-      deep = ap (λ e. length e.items - 1) same.edges_same ∙ h.lies.deep ∙ alike_length (frames s) (g ∷ gs) alike;
+      deep = ap (λ e. length e - 1) same.edges_same ∙ h.lies.deep ∙ alike_length (frames s) (g ∷ gs) alike;
       edged = edges;
     };
     handled = record {

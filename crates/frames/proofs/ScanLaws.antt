@@ -109,8 +109,8 @@ kept_same rows ws st ts s h same = record {
   lies = record {
     laid = h.lies.laid;
     fits = h.lies.fits;
-    deep = ap (λ e. length e.items - 1) same.edges_same ∙ h.lies.deep;
-    edged = λ xs fs e. ap (λ q. get_or q.items (length fs) 0) same.edges_same ∙ h.lies.edged xs fs e;
+    deep = ap (λ e. length e - 1) same.edges_same ∙ h.lies.deep;
+    edged = λ xs fs e. ap (λ q. get_or q (length fs) 0) same.edges_same ∙ h.lies.edged xs fs e;
   };
   marked = record {
     many = ap (λ t. length (records t)) same.markers_same ∙ h.marked.many;
@@ -182,14 +182,14 @@ decoded_record rows p row f fs i k roots behind e n a r b =
 pub held_none_at : (rows : Rows) (gs : List Frame) (p : ℕ) → length gs ≡ 0 → 0 ≡ held rows p gs
 held_none_at rows gs p n = sym (ap (λ q. held rows p q) (nil_from_length gs n) ∙ held_none rows p)
 
-held_below : (rows : Rows) (ws : List ℕ) (st : State) (s : Model) (xs gs : List Frame) (g : Frame) (from : ℕ) (r : Record) → Stands rows ws st s → frames s ≡ xs ++ (g ∷ gs) → length gs ≡ from → from ≤ s.level → 0 < from →
+pub held_below : (rows : Rows) (ws : List ℕ) (st : State) (s : Model) (xs gs : List Frame) (g : Frame) (from : ℕ) (r : Record) → Stands rows ws st s → frames s ≡ xs ++ (g ∷ gs) → length gs ≡ from → from ≤ s.level → 0 < from →
     ((d : Record) → r ≡ get_or (records st.records) (from - 1) d) → r.held ≡ held rows g.back gs
 held_below rows ws st s xs [] g from r h parts n low some is = absurd (omega arith)
 held_below rows ws st s xs (f ∷ fs) g from r h parts n low some is =
     let at : from - 1 ≡ length fs = omega arith in
     ap (λ q. q.held) (is no_record ∙ ap (λ k. get_or (records st.records) k no_record) at ∙ h.recorded.known xs fs g f parts (omega arith))
 
-held_there : (rows : Rows) (ws : List ℕ) (st : State) (s : Model) (from : ℕ) → Stands rows ws st s → from ≤ s.level → 0 < from → length (records st.records) ≤ from - 1 → ⊥
+pub held_there : (rows : Rows) (ws : List ℕ) (st : State) (s : Model) (from : ℕ) → Stands rows ws st s → from ≤ s.level → 0 < from → length (records st.records) ≤ from - 1 → ⊥
 held_there rows ws st s from h low some past = let enough = h.recorded.enough in omega arith
 
 -- what is answered of the record before it

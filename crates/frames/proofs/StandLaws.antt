@@ -91,7 +91,7 @@ told rows ws st s j f h e = marked_tells s.spacing s.level (length h.below) (sym
 index_same : (rows : Rows) (ws : List ℕ) (st : State) (s : Model) (j : ℕ) (f : Frame) → (h : FrameAt rows ws st s j f) → j / st.spacing - 1 ≡ length h.below / s.spacing - 1
 index_same rows ws st s j f h = ap (λ k. k / st.spacing - 1) (sym h.number) ∙ ap (λ m. length h.below / m - 1) h.stands.placed.spaced
 
-address_marked : (rows : Rows) (ws : List ℕ) (st : State) (s : Model) (j : ℕ) (f : Frame) (x : Marker) → FrameAt rows ws st s j f → marked st.spacing st.level j ≡ true →
+pub address_marked : (rows : Rows) (ws : List ℕ) (st : State) (s : Model) (j : ℕ) (f : Frame) (x : Marker) → FrameAt rows ws st s j f → marked st.spacing st.level j ≡ true →
     ((d : Marker) → x ≡ get_or (records st.markers) (j / st.spacing - 1) d) → x.address ≡ f.back
 address_marked rows ws st s j f x h e is =
     let t = told rows ws st s j f h e in
@@ -100,28 +100,28 @@ address_marked rows ws st s j f x h e is =
     ∙ ap (λ k. get_or (records st.markers) k no_marker) (index_same rows ws st s j f h)
     ∙ h.stands.marked.put_by h.above h.below f (length h.below / s.spacing - 1) h.parts (is_multiple s.spacing (length h.below) t.some t.multiple).1 t.upto)
 
-address_kept : (rows : Rows) (ws : List ℕ) (st : State) (s : Model) (j : ℕ) (f : Frame) → FrameAt rows ws st s j f → marked st.spacing st.level j ≡ true →
+pub address_kept : (rows : Rows) (ws : List ℕ) (st : State) (s : Model) (j : ℕ) (f : Frame) → FrameAt rows ws st s j f → marked st.spacing st.level j ≡ true →
     length (records st.markers) ≤ j / st.spacing - 1 → ⊥
 address_kept rows ws st s j f h e past =
     let there = marker_there st s (length h.below) h.stands.marked h.stands.placed.least (told rows ws st s j f h e) in
     let same = index_same rows ws st s j f h in
     omega arith
 
-edge_of : (rows : Rows) (ws : List ℕ) (st : State) (s : Model) (j : ℕ) (f : Frame) → (h : FrameAt rows ws st s j f) → get_or st.edges.items (length h.below) 0 ≡ top h.below
+edge_of : (rows : Rows) (ws : List ℕ) (st : State) (s : Model) (j : ℕ) (f : Frame) → (h : FrameAt rows ws st s j f) → get_or st.edges (length h.below) 0 ≡ top h.below
 edge_of rows ws st s j f h =
     h.stands.lies.edged (h.above ++ (f ∷ [])) h.below (h.parts ∙ sym (append_assoc h.above (f ∷ []) h.below))
 
-address_inside : (rows : Rows) (ws : List ℕ) (st : State) (s : Model) (j : ℕ) (f : Frame) → FrameAt rows ws st s j f → get_or st.edges.items j 0 < length ws
+pub address_inside : (rows : Rows) (ws : List ℕ) (st : State) (s : Model) (j : ℕ) (f : Frame) → FrameAt rows ws st s j f → get_or st.edges j 0 < length ws
 address_inside rows ws st s j f h =
-    let place : get_or st.edges.items j 0 ≡ top h.below = ap (λ k. get_or st.edges.items k 0) (sym h.number) ∙ edge_of rows ws st s j f h in
+    let place : get_or st.edges j 0 ≡ top h.below = ap (λ k. get_or st.edges k 0) (sym h.number) ∙ edge_of rows ws st s j f h in
     let under = frame_inside ws st s h.above h.below f h.stands.lies h.parts in
     let fits = h.stands.lies.fits in
     omega arith
 
-address_read : (rows : Rows) (ws : List ℕ) (st : State) (s : Model) (j : ℕ) (f : Frame) → FrameAt rows ws st s j f → marked st.spacing st.level j ≡ false →
-    get_or ws (get_or st.edges.items j 0) 0 ≡ f.back
+pub address_read : (rows : Rows) (ws : List ℕ) (st : State) (s : Model) (j : ℕ) (f : Frame) → FrameAt rows ws st s j f → marked st.spacing st.level j ≡ false →
+    get_or ws (get_or st.edges j 0) 0 ≡ f.back
 address_read rows ws st s j f h e =
-    let place : get_or st.edges.items j 0 ≡ top h.below = ap (λ k. get_or st.edges.items k 0) (sym h.number) ∙ edge_of rows ws st s j f h in
+    let place : get_or st.edges j 0 ≡ top h.below = ap (λ k. get_or st.edges k 0) (sym h.number) ∙ edge_of rows ws st s j f h in
     ap (λ k. get_or ws k 0) place
     ∙ word_of ws st s h.above h.below f h.stands.lies h.parts
     ∙ ap (λ b. cond b (marker s.spacing (length h.below)) f.back) (sym (marked_same rows ws st s j f h) ∙ e)
@@ -134,7 +134,7 @@ marker_answers rows ws st s j f None h e past = absurd (address_kept rows ws st 
 marker_answers rows ws st s j f (Some x) h e found = ap Some (address_marked rows ws st s j f x h e found.1)
 
 pub word_answers : (rows : Rows) (ws : List ℕ) (st : State) (s : Model) (j : ℕ) (f : Frame) (r : Result ℕ Refusal) → FrameAt rows ws st s j f → marked st.spacing st.level j ≡ false →
-    MatchResult r (Found ws (get_or st.edges.items j 0)) (NoWord ws (get_or st.edges.items j 0)) → result_ok r ≡ Some f.back
+    MatchResult r (Found ws (get_or st.edges j 0)) (NoWord ws (get_or st.edges j 0)) → result_ok r ≡ Some f.back
 word_answers rows ws st s j f (Ok w) h e found = ap Some (found.word ∙ address_read rows ws st s j f h e)
 word_answers rows ws st s j f (Err why) h e none =
     let l = address_inside rows ws st s j f h in

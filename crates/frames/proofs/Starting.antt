@@ -41,7 +41,7 @@ module _ (rows : Rows) (ws : List ℕ) (st : State) (m n : ℕ) (fair : FairStar
       ap (λ k. drop k (laid_at ws 0 0 n)) first_top ∙ drop_at (0 ∷ replicate (n - 1) 0) (drop (0 + n) ws) n first_words ∙ ap (λ k. drop k ws) (let a = first_top in let e : 0 + n ≡ top (frames (started rows (length ws) m n)) = omega arith in e)
 
   -- there is one frame, and none below it
-  edges : (xs fs : List Frame) → frames (started rows (length ws) m n) ≡ xs ++ fs → get_or st.edges.items (length fs) 0 ≡ top fs
+  edges : (xs fs : List Frame) → frames (started rows (length ws) m n) ≡ xs ++ fs → get_or st.edges (length fs) 0 ≡ top fs
   edges xs fs e =
       ⊎_elim
       (λ (all : fs ≡ frames (started rows (length ws) m n)).

@@ -18,6 +18,9 @@ pub record Dropping {R : Type 0} (frame : R → ℕ) (h : ℕ) (before after : L
   pub parts : before ≡ after ++ dropped
   pub above : (k : ℕ) (d : R) → k < length dropped → h < frame (get_or dropped k d)
 
+pub dropping_none : {R : Type 0} (frame : R → ℕ) (h : ℕ) (xs : List R) → Dropping frame h xs xs
+dropping_none frame h xs = record { dropped = []; parts = sym (append-nil xs); above = λ k d l. absurd (omega arith) }
+
 -- one more is dropped
 pub dropping_more : {R : Type 0} (frame : R → ℕ) (h : ℕ) (xs ys zs : List R) (x : R) → Dropping frame h xs ys → Newest ys x zs → h < frame x → Dropping frame h xs zs
 dropping_more {R} frame h xs ys zs x s new high =
@@ -30,6 +33,10 @@ dropping_more {R} frame h xs ys zs x s new high =
     each : (k : ℕ) (d : R) → k < length (x ∷ s.dropped) → h < frame (get_or (x ∷ s.dropped) k d)
     each zero d l = high
     each (suc k) d l = s.above k d (omega arith)
+
+-- up to a record of a frame that is not above h, or to the end
+pub dropping_done : {R : Type 0} (frame : R → ℕ) (h : ℕ) (xs ys : List R) → Dropping frame h xs ys → ((x : R) (zs : List R) → Newest ys x zs → frame x ≤ h) → DroppedAbove frame h xs ys
+dropping_done frame h xs ys s low = record { dropped = s.dropped; parts = s.parts; above = s.above; below = low }
 
 -- there is one newest record at most
 pub newest_same : {R : Type 0} (xs ys zs : List R) (x z : R) → Newest xs x ys → Newest xs z zs → x ≡ z

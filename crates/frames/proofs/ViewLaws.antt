@@ -40,15 +40,15 @@ pub not_running : (rows : Rows) (ws : List ℕ) (st : State) (s : Model) → Sta
 not_running rows ws st s h n e = n (h.placed.phased ∙ ap phase_of e)
 
 -- where the running frame begins and ends
-pub top_is : (rows : Rows) (ws : List ℕ) (st : State) (s : Model) → Stands rows ws st s → get_or st.edges.items (depth st) 0 ≡ top (frames s)
-top_is rows ws st s h = ap (λ k. get_or st.edges.items k 0) h.lies.deep ∙ h.lies.edged [] (frames s) refl
+pub top_is : (rows : Rows) (ws : List ℕ) (st : State) (s : Model) → Stands rows ws st s → get_or st.edges (depth st) 0 ≡ top (frames s)
+top_is rows ws st s h = ap (λ k. get_or st.edges k 0) h.lies.deep ∙ h.lies.edged [] (frames s) refl
 
-pub base_is : (rows : Rows) (ws : List ℕ) (st : State) (s : Model) → Stands rows ws st s → get_or st.edges.items (depth st - 1) 0 ≡ top s.older
+pub base_is : (rows : Rows) (ws : List ℕ) (st : State) (s : Model) → Stands rows ws st s → get_or st.edges (depth st - 1) 0 ≡ top s.older
 base_is rows ws st s h =
-    ap (λ k. get_or st.edges.items k 0) (let e = h.lies.deep in let n : depth st - 1 ≡ length s.older = omega arith in n)
+    ap (λ k. get_or st.edges k 0) (let e = h.lies.deep in let n : depth st - 1 ≡ length s.older = omega arith in n)
     ∙ h.lies.edged (s.current ∷ []) s.older refl
 
-pub size_is : (rows : Rows) (ws : List ℕ) (st : State) (s : Model) → Stands rows ws st s → get_or st.edges.items (depth st) 0 - get_or st.edges.items (depth st - 1) 0 ≡ size s.current
+pub size_is : (rows : Rows) (ws : List ℕ) (st : State) (s : Model) → Stands rows ws st s → get_or st.edges (depth st) 0 - get_or st.edges (depth st - 1) 0 ≡ size s.current
 size_is rows ws st s h =
     let t = top_is rows ws st s h in
     let u = base_is rows ws st s h in
@@ -57,13 +57,13 @@ size_is rows ws st s h =
 
 -- slots of the running frame
 module _ (rows : Rows) (ws : List ℕ) (st : State) (s : Model) (h : Stands rows ws st s) (i : ℕ) where
-  pub slot_at : get_or st.edges.items (depth st - 1) 0 + i ≡ top s.older + i
+  pub slot_at : get_or st.edges (depth st - 1) 0 + i ≡ top s.older + i
   slot_at = ap (λ k. k + i) (base_is rows ws st s h)
 
-  pub slot_in : get_or st.edges.items (depth st - 1) 0 + i < get_or st.edges.items (depth st) 0 → i < size s.current
+  pub slot_in : get_or st.edges (depth st - 1) 0 + i < get_or st.edges (depth st) 0 → i < size s.current
   slot_in l = let t = top_is rows ws st s h in let u = base_is rows ws st s h in let c = top-cons s.current s.older in omega arith
 
-  pub slot_out : i < size s.current → get_or st.edges.items (depth st - 1) 0 + i < get_or st.edges.items (depth st) 0
+  pub slot_out : i < size s.current → get_or st.edges (depth st - 1) 0 + i < get_or st.edges (depth st) 0
   slot_out l = let t = top_is rows ws st s h in let u = base_is rows ws st s h in let c = top-cons s.current s.older in omega arith
 
   pub slot_there : i < size s.current → top s.older + i < length ws

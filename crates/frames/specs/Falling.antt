@@ -8,7 +8,7 @@ use Rattle.frames.specs.declared.state.State.{State}
 pub record Fell (h : ℕ) (st ts : State) : Type 0 where
   pub phase_same : ts.phase ≡ st.phase
   pub spacing_same : ts.spacing ≡ st.spacing
-  pub edges_left : ts.edges.items ≡ take (suc (suc h)) st.edges.items
+  pub edges_left : ts.edges ≡ take (suc (suc h)) st.edges
   pub registers_same : ts.registers ≡ st.registers
   pub lower : ts.level ≡ min st.level h
   pub handlers_dropped : DroppedAbove (λ r. r.frame) h (records st.handlers) (records ts.handlers)

@@ -7,7 +7,7 @@ use Rattle.frames.specs.declared.state.State.{State}
 pub record Fresh (phase : Phase) (m n : ℕ) (st : State) : Type 0 where
   pub phase_is : st.phase ≡ phase
   pub spacing_is : st.spacing ≡ max m 1
-  pub edges_are : st.edges.items ≡ 0 ∷ n ∷ []
+  pub edges_are : st.edges ≡ 0 ∷ n ∷ []
   pub registers_are : st.registers ≡ replicate 16 0
   pub level_is : st.level ≡ 0
   pub no_handlers : records st.handlers ≡ []

@@ -70,7 +70,7 @@ pub record Laid (ws : List ℕ) (st : State) (s : Model) : Type 0 where
   pub laid : take (top (frames s)) ws ≡ layout s.spacing s.level (frames s)
   pub fits : top (frames s) ≤ length ws
   pub deep : depth st ≡ length (frames s)
-  pub edged : (xs fs : List Frame) → frames s ≡ xs ++ fs → slice_index st.edges.items (length fs) ≡ top fs
+  pub edged : (xs fs : List Frame) → frames s ≡ xs ++ fs → slice_index st.edges (length fs) ≡ top fs
 
 -- the handlers, of frames that there are, those of older frames first
 pub record Handled (st : State) (s : Model) : Type 0 where

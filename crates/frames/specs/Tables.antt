@@ -1,15 +1,14 @@
 -- Tables of records, and how many frames there are.
 use Rattle.std.specs.Prelude.{◌≡◌, ℕ, ◌-◌, ◌<◌, ◌≤◌, List, [], ◌∷◌, ◌++◌, length, slice_index_or}
 use Rattle.frames.specs.declared.state.State.{State}
-use Rattle.frames.specs.declared.table.Table.{Table}
 
--- the records of a table, the oldest first
-abbrev pub records : {R : Type 0} {n : ℕ} → Table R n → List R
-records t = t.items.items
+-- the records of a table, the oldest first: a contract sees a table as the list of them
+abbrev pub records : {R : Type 0} → List R → List R
+records t = t
 
 -- how many frames there are: a state has an edge for each, and one more
 abbrev pub depth : State → ℕ
-depth st = length st.edges.items - 1
+depth st = length st.edges - 1
 
 -- x is the newest of these records, and ys are the others
 abbrev pub Newest : {R : Type 0} → List R → R → List R → Type 0

@@ -5,27 +5,27 @@ ghost use Rattle.frames.specs.Fresh.{Fresh};
 ghost use Rattle.frames.specs.Tables.{records, depth};
 ghost use Rattle.frames.specs.declared.state.Phase.TheVariants.{Unstarted, Running};
 
+use crate::records::{Handler, Marker, Record};
 use crate::state::{Phase, State};
 use crate::table::Table;
-use arrayvec::ArrayVec;
 
 impl State {
     // A state in this phase with one frame of `size` words and empty tables; a spacing of 0 counts as 1.
     pub fn new(phase: Phase, spacing: usize, size: u16) -> State
         ensures { Fresh phase spacing size result }
     {
-        let mut edges = ArrayVec::new();
-        edges.push(0);
-        edges.push(size);
+        let mut edges = Table::new(0);
+        let _ = edges.push(0);
+        let _ = edges.push(size);
         State {
             phase,
             spacing: spacing.max(1),
             edges,
             registers: [0; 16],
-            handlers: Table::new(),
+            handlers: Table::new(Handler::default()),
             level: 0,
-            markers: Table::new(),
-            records: Table::new(),
+            markers: Table::new(Marker::default()),
+            records: Table::new(Record::default()),
         }
     }
 
@@ -68,21 +68,21 @@ impl State {
 
     // Where the running frame begins.
     pub fn base(&self) -> u16
-        ensures { result ≡ slice_index self.now.edges.items (depth self.now - 1) }
+        ensures { result ≡ slice_index self.now.edges (depth self.now - 1) }
     {
-        self.edges[self.newest()]
+        self.edges.get(self.newest()).unwrap_or(0)
     }
 
     // Where the next frame would begin.
     pub fn top(&self) -> u16
-        ensures { result ≡ slice_index self.now.edges.items (depth self.now) }
+        ensures { result ≡ slice_index self.now.edges (depth self.now) }
     {
-        self.edges[self.depth()]
+        self.edges.get(self.depth()).unwrap_or(0)
     }
 
     // How many words the running frame has.
     pub fn size(&self) -> usize
-        ensures { result ≡ slice_index self.now.edges.items (depth self.now) - slice_index self.now.edges.items (depth self.now - 1) }
+        ensures { result ≡ slice_index self.now.edges (depth self.now) - slice_index self.now.edges (depth self.now - 1) }
     {
         usize::from(self.top().saturating_sub(self.base()))
     }

@@ -41,5 +41,5 @@ pub fn return_address<S: StackMemory>(memory: &S, state: &State, frame: usize) -
             .get(frame / state.spacing - 1)
             .map(|marker| marker.address);
     }
-    memory.read(usize::from(state.edges[frame])).ok()
+    memory.read(usize::from(state.edges.get(frame)?)).ok()
 }

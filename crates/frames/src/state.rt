@@ -3,7 +3,6 @@ ghost use Rattle.std.specs.Prelude.{◌≡◌, ◌≤◌, length};
 
 use crate::records::{Handler, Marker, Record};
 use crate::table::Table;
-use arrayvec::ArrayVec;
 
 #[derive(Clone, Copy, PartialEq, Eq, Debug)]
 pub enum Phase {
@@ -22,15 +21,15 @@ pub struct State {
     // Every so many frames a collection puts a marker.
     pub spacing: usize,
     // Where each frame begins in the stack memory, and last where the next would.
-    pub edges: ArrayVec<u16, 257>,
+    pub edges: Table<u16, 257>,
     pub registers: [u32; 16],
     pub handlers: Table<Handler, 64>,
     // No frame below this one has run since the last collection was closed.
     pub level: usize,
     pub markers: Table<Marker, 64>,
     pub records: Table<Record, 256>,
-    ghost some: { 1 ≤ length edges.items },
-    ghost deep: { length edges.items ≤ 257 },
+    ghost some: { 1 ≤ length edges },
+    ghost deep: { length edges ≤ 257 },
     ghost sixteen: { length registers ≡ 16 },
     ghost spaced: { 1 ≤ spacing },
 }

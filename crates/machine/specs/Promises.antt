@@ -20,8 +20,8 @@ view_of rows count words m = seen rows count words m.map m.memory m.state
 -- the place of a slot of the running frame in the memory, where the frame has that slot
 abbrev pub SlotPlace : State → ℕ → Result ℕ Refusal → Type 0
 SlotPlace st i r =
-    let base = slice_index st.edges.items (depth st - 1) in
-    let top = slice_index st.edges.items (depth st) in
+    let base = slice_index st.edges (depth st - 1) in
+    let top = slice_index st.edges (depth st) in
     MatchResult r (λ place. (place ≡ base + i) × (1 ≤ i) × (base + i < top)) (λ e. (e ≡ OutOfRange) × ((1 ≤ i) × (base + i < top) → ⊥))
 
 -- a start is refused by the first reason that stands and changes nothing; or none stands, and the machine stands for a fresh start

@@ -34,7 +34,7 @@ impl<M: FrameMap, S: StackMemory> Machine<M, S> {
         }
         fitting_row(&mut self.map, point, self.state.size())?;
         lay_frame(&mut self.memory, top, size, point);
-        self.state.edges.push(end as u16);
+        let _ = self.state.edges.push(end as u16);
         Ok(())
     }
 

@@ -14,5 +14,5 @@ returns-then-is_marked g c = λ rows s xs fs f h e at.
 
 pub returns : goal.returns
 returns g c = λ rows s xs fs f h e at.
-    let from : c.from.result ≡ get_or c.args.state.now.edges.items c.args.frame 0 = c.from.ensures ∙ ap (λ q. get_or q c.args.frame 0) c.deref.ensures.0 in
+    let from : c.from.result ≡ get_or c.args.state.now.edges c.args.frame 0 = c.from.ensures ∙ c.in_ok-get.ensures.1 0 in
     c.ok.ensures.value ∙ word_answers rows _ c.args.state.now s c.args.frame f c.read.result (record { stands = h; above = xs; below = fs; parts = e; number = at }) (sym c.is_marked.ensures ∙ c.if-is_marked.false) (rw (← from) c.read.ensures)

@@ -16,7 +16,7 @@ returns g c = record {
       let mask = some_same _ _ (sym c.in_ok-entered.was ∙ below.0) in
       let many : length (records c.decode_all_waiting.new.state.records) ≡ length s.older = ap length below.1 ∙ length-scans rows s.current.back s.older in
       let deep = h.lies.deep in
-      let at : length s.older ≡ c.newest-frame.result = omega (arith, c.newest-frame.ensures, ap (λ e. length e.items) c.decode_all_waiting.ensures.tables.edges_same) in
+      let at : length s.older ≡ c.newest-frame.result = omega (arith, c.newest-frame.ensures, ap (λ e. length e) c.decode_all_waiting.ensures.tables.edges_same) in
       let all = c.scan_into.ensures.scanned rows p s.current s.older found (g.met.M.FrameMap.lawful c.args.map.now p c.args.row.now found) at mask (omega (arith, c.args.state.now.deep)) in (
         ap Some all.0,
         all.1 ∙ ap (λ q. q ++ record_of rows p s.current s.older ∷ []) below.1 ∙ sym (scans-cons rows p s.current s.older),

@@ -5,6 +5,7 @@ use Rattle.frames.specs.Models.{frames}
 use Rattle.refusal.specs.declared.Refusal.TheVariants.{OutOfRange, NoRoom}
 use Rattle.frames.proofs.ViewLaws.{handed, runs, top_is, size_is, stays, stays_as, stays_asked, stopped, unfit}
 use Rattle.frames.proofs.Entering.{laid_at, enter_accepted}
+use Rattle.frames.proofs.TableLaws.{pushed}
 use Rattle.machine.proofs.machine.Machine.enter.Goals as goal
 use Rattle.machine.proofs.machine.Machine.enter.Goals.{then-is_full-via-then-is_full, then-is_full-via-else-is_full+then-end-len}
 
@@ -62,6 +63,6 @@ returns g c = λ s h.
           (c.size.ensures ∙ size_is _ _ _ s h) c.in_ok-fitting_row.ensures.found c.fitting_row.ensures.same c.fitting_row.ensures.counted
           (c.lay_frame.ensures (omega arith) (omega arith) ∙ ap (λ t. laid_at ws t c.args.point c.in_ok-size.size) place ∙ ap (λ k. laid_at ws (top (frames s)) c.args.point k) same)
           (search rules)
-          (c.push.ensures.items ∙ ap (λ k. c.args.self.now.state.edges.items ++ k ∷ []) end),
+          (pushed 257 _ _ _ _ (omega (arith, c.args.self.now.state.deep)) c.push.ensures ∙ ap (λ k. c.args.self.now.state.edges ++ k ∷ []) end),
       tt,
     )
