@@ -71,13 +71,13 @@ impl Halves {
         }
     }
 
-    // Forwards every root word in turn.
+    // Forwards every root word in turn. By index, as fields are: where a loop begins is then a number, and an edit of it is refused for what it leaves out.
     fn forward_roots(&mut self, roots: &mut [u32])
         requires { Unmoved (moving self.old) roots.old }
         ensures { (s : Space) → Rooting s roots.old roots.old (moving self.old) [] 0 → Rooted s roots.old roots.new (moving self.new) (length roots.old) }
     {
-        for root in roots.iter_mut() {
-            *root = self.forward(*root);
+        for i in 0..roots.len() {
+            roots[i] = self.forward(roots[i]);
         }
     }
 

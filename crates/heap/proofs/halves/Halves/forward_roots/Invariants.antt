@@ -6,5 +6,5 @@ use Rattle.heap.specs.Buffers.{moving}
 use Rattle.heap.proofs.halves.Halves.forward_roots.Given as goal
 
 -- the first root words are forwarded
-abbrev pub invariant-loop-root : goal.invariant-loop-root
-invariant-loop-root l = (s : Space) → Rooting s l.initial.roots l.initial.roots (moving l.initial.self) [] 0 → Rooted s l.initial.roots l.roots (moving l.self) l.root-index
+abbrev pub invariant-loop-i : goal.invariant-loop-i
+invariant-loop-i l = (s : Space) → Rooting s l.initial.roots l.initial.roots (moving l.initial.self) [] 0 → Rooted s l.initial.roots l.roots (moving l.self) l.i
