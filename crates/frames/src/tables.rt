@@ -20,14 +20,16 @@ impl<R: Copy, const N: usize> Table<R, N> {
 
     // The records, the oldest first.
     pub fn entries(&self) -> &[R]
-        ensures { result.now ≡ records self.now }
+        ensures value { result.now ≡ records self.now }
+        ensures fits { length result.now ≤ N }
     {
         &self.items[..self.len]
     }
 
     // How many records there are.
     pub fn len(&self) -> usize
-        ensures { result ≡ length (records self.now) }
+        ensures value { result ≡ length (records self.now) }
+        ensures fits { result ≤ N }
     {
         self.entries().len()
     }
