@@ -70,14 +70,14 @@ impl State {
     pub fn base(&self) -> u16
         ensures { result ≡ slice_index self.now.edges (depth self.now - 1) }
     {
-        self.edges.get(self.newest()).unwrap_or(0)
+        self.edges.entries()[self.newest()]
     }
 
     // Where the next frame would begin.
     pub fn top(&self) -> u16
         ensures { result ≡ slice_index self.now.edges (depth self.now) }
     {
-        self.edges.get(self.depth()).unwrap_or(0)
+        self.edges.entries()[self.depth()]
     }
 
     // How many words the running frame has.
